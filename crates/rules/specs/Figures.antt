@@ -1,0 +1,140 @@
+-- Document 01, "Figures to check against": K1 to K10, one lemma over a list of cases.
+use Prim.Native.Nat.{ℕ}
+use mathlib.Core.Path.{_≡_, refl}
+use mathlib.Core.List.{List, [], _∷_, _++_, map}
+use mathlib.Core.Bool.{Bool, true, false, _&&_}
+use lib.ListN.{replicate}
+use lib.Dec.{eqb}
+use lib.IntN.{ℤ, pos, negsuc}
+use Rattle.rules.specs.Fold.{refuse, _orElse_, first, before, sumTo, sumZ, mostTo, someTo, joined, listTo, five}
+use Rattle.rules.specs.Refusals.{headerFault, marketPriceFault, markFault, marketFault, breakFault, outOfOrder, orderFault, priceFault, unusedFault, bidFault}
+use Rattle.rules.specs.Refusals.{totalFault, actualFault, lineFault, lineFaultAt, sameKey, pairFault, keyFault, dayFault, settleFault}
+use Rattle.rules.specs.Steps.{bidMost, greatestBreak, insert, rising, bidBreaks, hedgePoint, ends, stepCount, upperEnd, lowerEnd, stepFrom, bidStep, price, flag}
+use Rattle.rules.specs.Steps.{capped, hedged, accredited, paid}
+use Rattle.rules.specs.Quantities.{pricingIn, pricingTotal, operatingTotal, actualIn, effectiveActual, allocated, leastFrom, lastAgino, agino, beyond, msiqFrom, msiq, constrained}
+use Rattle.rules.specs.Matching.{earlier, rise, fall, takes, leaves, openRises, matchesOf, matched, tenMatches}
+use Rattle.rules.specs.Payments.{operatingOn, pricingOn, actualOn, aginoOn, msiqOn, constrainedOn, onStep, excess, milder, rate, revisedRate, isPaid, initial}
+use Rattle.rules.specs.Payments.{matchedAt, givenBack, initialOr, revised, modified, pooledPayment, isPooled, finalPayment, stepPrice, stepFlag, stepPaid, stepOf, stepRevised, ofSide, lineRevised, poolTotal}
+use Rattle.rules.specs.Payments.{paidChange, lineChange, poolChange, poolBase, stepDiffers, lineDiffers, poolDiffers, poolOf, stepFinal}
+use Rattle.rules.specs.Totals.{linePayment, total, leastSum, adjustedAfter, carried, adjusted, totals, adjustedTotal}
+use Rattle.rules.specs.Book.{le, bits64, bookHeader, totalPair, paymentBytes, lineEntry, bookOf, bookAfter}
+use Rattle.rules.specs.Report.{digits, decimal, signedDecimal, sideText, numberAfter, fiveNumbers, paymentOf, lineText, settledText, refusedLine, reportText}
+
+-- what is worked out, and what document 01 says
+pub record Case : Type 0 where
+  pub found : List ℕ
+  pub expected : List ℕ
+
+abbrev same : List ℕ → List ℕ → Bool
+same [] [] = true
+same [] (y ∷ ys) = false
+same (x ∷ xs) [] = false
+same (x ∷ xs) (y ∷ ys) = eqb x y && same xs ys
+
+abbrev every : List Case → Bool
+every [] = true
+every (c ∷ cs) = same (c .found) (c .expected) && every cs
+
+abbrev bytesOf : List ℕ → List ℕ
+bytesOf [] = []
+bytesOf (v ∷ vs) = le 4 v ++ bytesOf vs
+
+-- "Bids of FD Table 1, its GJ taken as MJ and each dollar as 10,000 price units, schedules 4 and 5 like its 2nd
+-- reschedule, hedge 37"; pricing quantities of FD Table 4, operating row 5 and actuals of FD Table 7
+abbrev tableBid : ℕ → List ℕ
+tableBid s = 4 ∷ 17 ∷ 34 ∷ 51 ∷ 68 ∷ 0 ∷ 0 ∷ 0 ∷ 0 ∷ 0 ∷ 0 ∷ 0 ∷ 22000 ∷ 27000 ∷ 32000 ∷ 37000 ∷ 0 ∷ 0 ∷ 0 ∷ 0 ∷ 0 ∷ 0 ∷ 0 ∷ []
+
+abbrev tableLine : List ℕ
+tableLine =
+    bytesOf
+    ((1 ∷ 1 ∷ 0 ∷ 1 ∷ 37 ∷ [])
+    ++ (5 ∷ 15 ∷ 30 ∷ 45 ∷ 60 ∷ 75 ∷ 0 ∷ 0 ∷ 0 ∷ 0 ∷ 0 ∷ 0 ∷ 20000 ∷ 25000 ∷ 30000 ∷ 35000 ∷ 40000 ∷ 0 ∷ 0 ∷ 0 ∷ 0 ∷ 0 ∷ 0 ∷ [])
+    ++ (4 ∷ 16 ∷ 32 ∷ 48 ∷ 64 ∷ 0 ∷ 0 ∷ 0 ∷ 0 ∷ 0 ∷ 0 ∷ 0 ∷ 21000 ∷ 26000 ∷ 31000 ∷ 36000 ∷ 0 ∷ 0 ∷ 0 ∷ 0 ∷ 0 ∷ 0 ∷ 0 ∷ [])
+    ++ tableBid 2 ++ tableBid 3 ++ tableBid 4
+    ++ (1 ∷ 2 ∷ 3 ∷ 4 ∷ 5 ∷ 6 ∷ 7 ∷ 8 ∷ 9 ∷ 10 ∷ 11 ∷ 12 ∷ 13 ∷ 14 ∷ 15 ∷ [])
+    ++ replicate 20 0
+    ++ (10 ∷ 10 ∷ 10 ∷ 10 ∷ 10 ∷ [])
+    ++ (8 ∷ 9 ∷ 10 ∷ 11 ∷ 12 ∷ []))
+
+-- K10's day: "One line, participant 7, point 3, accredited injection, hedge 0; each bid has breaks 1000, 3000 at 20000, 50000;
+-- market prices 30000, the rest of the table 0 .."
+abbrev k10Bid : List ℕ
+k10Bid = 2 ∷ 1000 ∷ 3000 ∷ 0 ∷ 0 ∷ 0 ∷ 0 ∷ 0 ∷ 0 ∷ 0 ∷ 0 ∷ 0 ∷ 20000 ∷ 50000 ∷ 0 ∷ 0 ∷ 0 ∷ 0 ∷ 0 ∷ 0 ∷ 0 ∷ 0 ∷ 0 ∷ []
+
+abbrev pub k10Day : List ℕ
+k10Day =
+    bytesOf
+    ((1 ∷ 16 ∷ 64 ∷ 724 ∷ [])
+    ++ replicate 5 30000 ++ replicate 7 0
+    ++ (7 ∷ 3 ∷ 0 ∷ 1 ∷ 0 ∷ [])
+    ++ k10Bid ++ k10Bid ++ k10Bid ++ k10Bid ++ k10Bid
+    ++ (1000 ∷ replicate 14 0)
+    ++ (1000 ∷ 0 ∷ 0 ∷ 0 ∷ 0 ∷ [])
+    ++ (1000 ∷ 1000 ∷ 0 ∷ 0 ∷ 0 ∷ 1000 ∷ 1000 ∷ 0 ∷ 0 ∷ 0 ∷ [])
+    ++ (1000 ∷ 500 ∷ 0 ∷ 0 ∷ 0 ∷ 1000 ∷ 500 ∷ 0 ∷ 0 ∷ 0 ∷ [])
+    ++ (1000 ∷ 500 ∷ 0 ∷ 0 ∷ 0 ∷ []))
+
+-- words 1 16 96 152; t, a: 0 0, 20000000 10000000, 0 0, -10000000 0, 0 0; 7 3 0 2; 0 20000000 0 -10000000 0
+abbrev k10Book : List ℕ
+k10Book =
+    1 ∷ 0 ∷ 0 ∷ 0 ∷ 16 ∷ 0 ∷ 0 ∷ 0 ∷ 96 ∷ 0 ∷ 0 ∷ 0 ∷ 152 ∷ 0 ∷ 0 ∷ 0 ∷ 0 ∷ 0 ∷ 0 ∷ 0 ∷ 0 ∷ 0 ∷ 0 ∷ 0 ∷ 0 ∷ 0 ∷ 0 ∷ 0
+    ∷ 0 ∷ 0 ∷ 0 ∷ 0 ∷ 0 ∷ 45 ∷ 49 ∷ 1 ∷ 0 ∷ 0 ∷ 0 ∷ 0 ∷ 128 ∷ 150 ∷ 152 ∷ 0 ∷ 0 ∷ 0 ∷ 0 ∷ 0 ∷ 0 ∷ 0 ∷ 0 ∷ 0 ∷ 0 ∷ 0 ∷
+    0 ∷ 0 ∷ 0 ∷ 0 ∷ 0 ∷ 0 ∷ 0 ∷ 0 ∷ 0 ∷ 0 ∷ 128 ∷ 105 ∷ 103 ∷ 255 ∷ 255 ∷ 255 ∷ 255 ∷ 255 ∷ 0 ∷ 0 ∷ 0 ∷ 0 ∷ 0 ∷ 0 ∷ 0
+    ∷ 0 ∷ 0 ∷ 0 ∷ 0 ∷ 0 ∷ 0 ∷ 0 ∷ 0 ∷ 0 ∷ 0 ∷ 0 ∷ 0 ∷ 0 ∷ 0 ∷ 0 ∷ 0 ∷ 0 ∷ 7 ∷ 0 ∷ 0 ∷ 0 ∷ 3 ∷ 0 ∷ 0 ∷ 0 ∷ 0 ∷ 0 ∷ 0 ∷
+    0 ∷ 2 ∷ 0 ∷ 0 ∷ 0 ∷ 0 ∷ 0 ∷ 0 ∷ 0 ∷ 0 ∷ 0 ∷ 0 ∷ 0 ∷ 0 ∷ 45 ∷ 49 ∷ 1 ∷ 0 ∷ 0 ∷ 0 ∷ 0 ∷ 0 ∷ 0 ∷ 0 ∷ 0 ∷ 0 ∷ 0 ∷ 0 ∷
+    0 ∷ 128 ∷ 105 ∷ 103 ∷ 255 ∷ 255 ∷ 255 ∷ 255 ∷ 255 ∷ 0 ∷ 0 ∷ 0 ∷ 0 ∷ 0 ∷ 0 ∷ 0 ∷ 0 ∷ []
+
+-- the four lines that document 01 shows
+abbrev k10Text : List ℕ
+k10Text =
+    100 ∷ 97 ∷ 121 ∷ 32 ∷ 49 ∷ 10 ∷ 55 ∷ 32 ∷ 51 ∷ 32 ∷ 73 ∷ 78 ∷ 74 ∷ 32 ∷ 50 ∷ 32 ∷ 48 ∷ 32 ∷ 50 ∷ 48 ∷ 48 ∷ 48 ∷ 48
+    ∷ 48 ∷ 48 ∷ 48 ∷ 32 ∷ 48 ∷ 32 ∷ 45 ∷ 49 ∷ 48 ∷ 48 ∷ 48 ∷ 48 ∷ 48 ∷ 48 ∷ 48 ∷ 32 ∷ 48 ∷ 10 ∷ 116 ∷ 111 ∷ 116 ∷ 97 ∷
+    108 ∷ 32 ∷ 48 ∷ 32 ∷ 50 ∷ 48 ∷ 48 ∷ 48 ∷ 48 ∷ 48 ∷ 48 ∷ 48 ∷ 32 ∷ 48 ∷ 32 ∷ 45 ∷ 49 ∷ 48 ∷ 48 ∷ 48 ∷ 48 ∷ 48 ∷ 48
+    ∷ 48 ∷ 32 ∷ 48 ∷ 10 ∷ 97 ∷ 100 ∷ 106 ∷ 117 ∷ 115 ∷ 116 ∷ 101 ∷ 100 ∷ 32 ∷ 48 ∷ 32 ∷ 49 ∷ 48 ∷ 48 ∷ 48 ∷ 48 ∷ 48 ∷
+    48 ∷ 48 ∷ 32 ∷ 48 ∷ 32 ∷ 48 ∷ 32 ∷ 48 ∷ 10 ∷ []
+
+-- price and flag of the step that ends at u
+abbrev priced : ℕ → ℕ → List ℕ
+priced s u = price tableLine s u ∷ flag tableLine s u ∷ []
+
+-- AGINO(5) on a step from l to u, with FD Table 7's operating total and effective actual
+abbrev lastAginoOn : ℕ → ℕ → ℕ
+lastAginoOn l u = lastAgino (replicate 4 0 ++ (allocated (operatingTotal tableLine 4) l u ∷ [])) (allocated (effectiveActual tableLine) l u)
+
+abbrev adjustedOf : List ℤ → List ℕ
+adjustedOf t = map bits64 (five (adjusted t))
+
+abbrev k6 : List ℕ
+k6 = 10 ∷ 20 ∷ 30 ∷ 40 ∷ 50 ∷ []
+
+abbrev k7 : List ℕ
+k7 = 3 ∷ 5 ∷ 2 ∷ 4 ∷ 1 ∷ []
+
+abbrev cases : List Case
+cases =
+    -- K1
+    record { found = ends tableLine; expected = 15 ∷ 16 ∷ 17 ∷ 30 ∷ 32 ∷ 34 ∷ 37 ∷ 45 ∷ 48 ∷ 51 ∷ 60 ∷ 64 ∷ 68 ∷ 75 ∷ [] }
+    -- K2
+    ∷ record { found = priced 1 64 ++ priced 1 68; expected = 36000 ∷ 0 ∷ 36000 ∷ 1 ∷ [] }
+    -- K3
+    ∷ record { found = five (pricingTotal tableLine); expected = 15 ∷ 31 ∷ 40 ∷ 44 ∷ 45 ∷ [] }
+    -- K4
+    ∷ record { found = allocated (pricingTotal tableLine 1) 30 32 ∷ []; expected = 1 ∷ [] }
+    -- K5
+    ∷ record { found = effectiveActual tableLine ∷ operatingTotal tableLine 4 ∷ []; expected = 47 ∷ 50 ∷ [] }
+    ∷ record { found = lastAginoOn 45 48 ∷ lastAginoOn 48 51 ∷ []; expected = 1 ∷ 2 ∷ [] }
+    -- K6, where O(5) - A is 45
+    ∷ record { found = five (agino k6 5); expected = 5 ∷ 15 ∷ 25 ∷ 35 ∷ 45 ∷ [] }
+    -- K7: m(1,2); m(1,3) m(2,3); m(1,4) m(2,4) m(3,4); m(1,5) m(2,5) m(3,5) m(4,5)
+    ∷ record { found = tenMatches k7; expected = 0 ∷ 1 ∷ 2 ∷ 0 ∷ 0 ∷ 0 ∷ 1 ∷ 0 ∷ 0 ∷ 2 ∷ [] }
+    -- K8, K9
+    ∷ record { found = adjustedOf (pos 5 ∷ negsuc 1 ∷ pos 4 ∷ negsuc 2 ∷ pos 0 ∷ []); expected = map bits64 (pos 3 ∷ pos 0 ∷ pos 1 ∷ pos 0 ∷ pos 0 ∷ []) }
+    ∷ record { found = adjustedOf (pos 5 ∷ negsuc 7 ∷ pos 4 ∷ pos 0 ∷ pos 0 ∷ []); expected = map bits64 (pos 0 ∷ negsuc 2 ∷ pos 4 ∷ pos 0 ∷ pos 0 ∷ []) }
+    -- K10: a lent book of just its length, and the report
+    ∷ record { found = bookAfter k10Day (replicate 152 170); expected = k10Book }
+    ∷ record { found = reportText k10Day; expected = k10Text }
+    ∷ []
+
+pub figures : every cases ≡ true
+unfolding refuse _orElse_ first before sumTo sumZ mostTo someTo joined listTo headerFault marketPriceFault markFault marketFault breakFault outOfOrder orderFault priceFault unusedFault bidFault totalFault actualFault lineFault lineFaultAt sameKey pairFault keyFault dayFault settleFault bidMost greatestBreak insert rising bidBreaks hedgePoint ends stepCount upperEnd lowerEnd stepFrom bidStep price flag capped hedged accredited paid pricingIn pricingTotal operatingTotal actualIn effectiveActual allocated leastFrom lastAgino agino beyond msiqFrom msiq constrained earlier rise fall takes leaves openRises matchesOf matched tenMatches operatingOn pricingOn actualOn aginoOn msiqOn constrainedOn onStep excess milder rate revisedRate isPaid initial matchedAt givenBack initialOr revised modified pooledPayment isPooled finalPayment stepPrice stepFlag stepPaid stepOf stepRevised ofSide lineRevised poolTotal paidChange lineChange poolChange poolBase stepDiffers lineDiffers poolDiffers poolOf stepFinal linePayment total leastSum adjustedAfter carried adjusted totals adjustedTotal le bookHeader totalPair paymentBytes lineEntry bookOf bookAfter digits decimal signedDecimal sideText numberAfter fiveNumbers paymentOf lineText settledText refusedLine reportText
+figures = refl

@@ -1,0 +1,198 @@
+-- Document 01, "Payments" (FD 8.4, 8.5): the figures of one step, then those of a day's steps.
+use Prim.Native.Nat.{ℕ, _*_, _-_, min, max}
+use mathlib.Core.List.{List}
+use mathlib.Core.Bool.{Bool, not, cond, _&&_, _||_}
+use lib.Dec.{eqb}
+use lib.IntN.{ℤ, pos, negℤ, subℕ, _-ℤ_, _*ℤ_}
+use lib.Signed.{ltZ, leZ, nonNeg, quotZ}
+use Rattle.rules.specs.Fold.{sumTo, sumZ, someTo, eqbZ, five, at}
+use Rattle.rules.specs.Layout.{lineCount, marketPrice, clawback, lineAt, side, withdrawal}
+use Rattle.rules.specs.Steps.{stepCount, upperEnd, lowerEnd, price, flag, capped, paid}
+use Rattle.rules.specs.Quantities.{pricingTotal, operatingTotal, effectiveActual, allocated, agino, msiq, constrained}
+use Rattle.rules.specs.Matching.{earlier, rise, fall, matched}
+
+-- What one step's figures are worked out from; each list has a value for each schedule.
+pub record Step : Type 0 where
+  -- 0 injection, 1 withdrawal
+  pub side : ℕ
+  pub lower : ℕ
+  pub upper : ℕ
+  -- capped prices, flags, market prices, and 1 where the step is paid
+  pub price : List ℕ
+  pub flag : List ℕ
+  pub market : List ℕ
+  pub paid : List ℕ
+  -- the line's pricing and operating totals, and its effective actual
+  pub pricing : List ℕ
+  pub operating : List ℕ
+  pub actual : ℕ
+
+-- "On a step, O(s) is operating, E(s) pricing, A effective actual" (document 01, "Quantities")
+unfoldable pub operatingOn : Step → ℕ → ℕ
+operatingOn x s = allocated (at (x .operating) s) (x .lower) (x .upper)
+
+unfoldable pub pricingOn : Step → ℕ → ℕ
+pricingOn x s = allocated (at (x .pricing) s) (x .lower) (x .upper)
+
+unfoldable pub actualOn : Step → ℕ
+actualOn x = allocated (x .actual) (x .lower) (x .upper)
+
+unfoldable pub aginoOn : Step → ℕ → ℕ
+aginoOn x s = agino (five (operatingOn x)) (actualOn x) s
+
+unfoldable pub msiqOn : Step → ℕ → ℕ
+msiqOn x s = msiq (x .side) (x .price) (x .market) (five (pricingOn x)) s
+
+unfoldable pub constrainedOn : Step → ℕ → ℕ
+constrainedOn x s = constrained (five (operatingOn x)) (five (aginoOn x)) (five (msiqOn x)) s
+
+-- C for the five schedules, from which rises, falls and matches are taken
+unfoldable pub onStep : Step → List ℕ
+onStep x = five (constrainedOn x)
+
+-- "max(0, price - market price), reversed for withdrawals"
+unfoldable pub excess : ℕ → ℕ → ℕ → ℕ
+excess sd p m = cond (withdrawal sd) (m - p) (p - m)
+
+-- "lesser of the prices in r and s .. Withdrawals: .. the greater"
+unfoldable pub milder : ℕ → ℕ → ℕ → ℕ
+milder sd p q = cond (withdrawal sd) (max p q) (min p q)
+
+-- "Rate R(s) = max(0, price - market price), reversed for withdrawals"
+unfoldable pub rate : Step → ℕ → ℕ
+rate x s = excess (x .side) (at (x .price) s) (at (x .market) s)
+
+-- "max(0, lesser of the prices in r and s, less market price of s). Withdrawals: market price less the greater"
+unfoldable pub revisedRate : Step → ℕ → ℕ → ℕ
+revisedRate x s r = excess (x .side) (milder (x .side) (at (x .price) r) (at (x .price) s)) (at (x .market) s)
+
+unfoldable pub isPaid : Step → ℕ → Bool
+isPaid x s = eqb (at (x .paid) s) 1
+
+-- "A step is paid if ..; otherwise all its payments are 0". "Initial: (C(s) - C(s-1)) times R(s)".
+-- Of an unpaid step this is 0, and so are the three kinds below: each is the initial one where that is at least 0
+unfoldable pub initial : Step → ℕ → ℤ
+initial x s = cond (isPaid x s) (subℕ (at (onStep x) s) (earlier (onStep x) s) *ℤ pos (rate x s)) (pos 0)
+
+-- what matches give back: m(r, s) times a rate of r, summed over r before s
+unfoldable pub matchedAt : Step → ℕ → (ℕ → ℕ) → ℕ → ℕ
+matchedAt x s f r = matched (onStep x) s r * f r
+
+unfoldable pub givenBack : Step → ℕ → (ℕ → ℕ) → ℕ
+givenBack x s f = sumTo s (matchedAt x s f)
+
+-- the initial payment if that is at least 0, else minus what is given back at these rates
+unfoldable pub initialOr : Step → ℕ → (ℕ → ℕ) → ℤ
+initialOr x s f = cond (nonNeg (initial x s)) (initial x s) (negℤ (pos (givenBack x s f)))
+
+-- "Revised: initial if that is at least 0; else minus the sum over r of m(r, s) times max(0, lesser of the prices .."
+unfoldable pub revised : Step → ℕ → ℤ
+revised x s = initialOr x s (revisedRate x s)
+
+-- "Modified: initial if at least 0; else minus the sum of m(r, s) times R(r)"
+unfoldable pub modified : Step → ℕ → ℤ
+modified x s = initialOr x s (rate x)
+
+-- The pool of one side in one schedule: T, B, and whether some revised differs from its initial.
+pub record Pool : Type 0 where
+  pub total : ℤ
+  pub base : ℕ
+  pub differs : Bool
+
+abbrev pub maxZ : ℤ → ℤ → ℤ
+maxZ a b = cond (leZ a b) b a
+
+-- "revised - T times D(s) / B, the quotient rounded towards zero"
+unfoldable pub pooledPayment : Step → ℕ → Pool → ℤ
+pooledPayment x s p = revised x s -ℤ quotZ (p .total *ℤ pos (fall (onStep x) s)) (pos (p .base))
+
+-- "If T > 0, initial < 0 and some revised on that side in s differs from its initial"
+unfoldable pub isPooled : Step → ℕ → Pool → Bool
+isPooled x s p = ltZ (pos 0) (p .total) && ltZ (initial x s) (pos 0) && p .differs
+
+-- "Final: initial if s = 1 or clawback is off; modified if the flag is 1. Otherwise .. the greater of initial and
+-- revised - T times D(s) / B .. Else revised", with the clawback switch and the pool of the step's side in s
+unfoldable pub finalPayment : Step → ℕ → ℕ → Pool → ℤ
+finalPayment x claw s p =
+    cond (eqb s 0 || eqb claw 0)
+    (initial x s)
+    (cond (eqb (at (x .flag) s) 1)
+    (modified x s)
+    (cond (isPooled x s p) (maxZ (initial x s) (pooledPayment x s p)) (revised x s)))
+
+-- 1 for a test that holds
+abbrev pub bit : Bool → ℕ
+bit b = cond b 1 0
+
+-- step j of line k of the day d
+unfoldable pub stepPrice : List ℕ → ℕ → ℕ → ℕ → ℕ
+stepPrice d k j s = capped d s (price (lineAt d k) s (upperEnd (lineAt d k) j))
+
+unfoldable pub stepFlag : List ℕ → ℕ → ℕ → ℕ → ℕ
+stepFlag d k j s = flag (lineAt d k) s (upperEnd (lineAt d k) j)
+
+unfoldable pub stepPaid : List ℕ → ℕ → ℕ → ℕ → ℕ
+stepPaid d k j s = bit (paid (lineAt d k) (upperEnd (lineAt d k) j) s)
+
+unfoldable pub stepOf : List ℕ → ℕ → ℕ → Step
+stepOf d k j =
+    record {
+      side = side (lineAt d k);
+      lower = lowerEnd (lineAt d k) j;
+      upper = upperEnd (lineAt d k) j;
+      price = five (stepPrice d k j);
+      flag = five (stepFlag d k j);
+      market = five (marketPrice d);
+      paid = five (stepPaid d k j);
+      pricing = five (pricingTotal (lineAt d k));
+      operating = five (operatingTotal (lineAt d k));
+      actual = effectiveActual (lineAt d k);
+    }
+
+-- "T be the sum of revised over all steps of that side in s": of one step, one line, all lines
+unfoldable pub stepRevised : List ℕ → ℕ → ℕ → ℕ → ℤ
+stepRevised d s k j = revised (stepOf d k j) s
+
+unfoldable pub ofSide : List ℕ → ℕ → ℕ → Bool
+ofSide d sd k = eqb (side (lineAt d k)) sd
+
+unfoldable pub lineRevised : List ℕ → ℕ → ℕ → ℕ → ℤ
+lineRevised d sd s k = cond (ofSide d sd k) (sumZ (stepCount (lineAt d k)) (stepRevised d s k)) (pos 0)
+
+unfoldable pub poolTotal : List ℕ → ℕ → ℕ → ℤ
+poolTotal d sd s = sumZ (lineCount d) (lineRevised d sd s)
+
+-- "B the greater of two sums over that side's paid steps in s, of the rises U(s) and of the falls D(s)"
+unfoldable pub paidChange : (List ℕ → ℕ → ℕ) → List ℕ → ℕ → ℕ → ℕ → ℕ
+paidChange change d s k j = cond (isPaid (stepOf d k j) s) (change (onStep (stepOf d k j)) s) 0
+
+unfoldable pub lineChange : (List ℕ → ℕ → ℕ) → List ℕ → ℕ → ℕ → ℕ → ℕ
+lineChange change d sd s k = cond (ofSide d sd k) (sumTo (stepCount (lineAt d k)) (paidChange change d s k)) 0
+
+unfoldable pub poolChange : (List ℕ → ℕ → ℕ) → List ℕ → ℕ → ℕ → ℕ
+poolChange change d sd s = sumTo (lineCount d) (lineChange change d sd s)
+
+unfoldable pub poolBase : List ℕ → ℕ → ℕ → ℕ
+poolBase d sd s = max (poolChange rise d sd s) (poolChange fall d sd s)
+
+-- "some revised on that side in s differs from its initial"
+unfoldable pub stepDiffers : List ℕ → ℕ → ℕ → ℕ → Bool
+stepDiffers d s k j = not (eqbZ (revised (stepOf d k j) s) (initial (stepOf d k j) s))
+
+unfoldable pub lineDiffers : List ℕ → ℕ → ℕ → ℕ → Bool
+lineDiffers d sd s k = ofSide d sd k && someTo (stepCount (lineAt d k)) (stepDiffers d s k)
+
+unfoldable pub poolDiffers : List ℕ → ℕ → ℕ → Bool
+poolDiffers d sd s = someTo (lineCount d) (lineDiffers d sd s)
+
+unfoldable pub poolOf : List ℕ → ℕ → ℕ → Pool
+poolOf d sd s =
+    record {
+      total = poolTotal d sd s;
+      base = poolBase d sd s;
+      differs = poolDiffers d sd s;
+    }
+
+-- the final payment of step j of line k in s
+unfoldable pub stepFinal : List ℕ → ℕ → ℕ → ℕ → ℤ
+stepFinal d s k j = finalPayment (stepOf d k j) (clawback d) s (poolOf d (side (lineAt d k)) s)

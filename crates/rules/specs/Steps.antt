@@ -1,0 +1,83 @@
+-- Document 01, "Steps and prices" (FD 4.2, 4.3).
+use Prim.Native.Nat.{ℕ, zero, suc, _-_, min}
+use mathlib.Core.List.{List, [], _∷_, _++_}
+use mathlib.Core.Bool.{Bool, cond, not, _&&_}
+use lib.ListN.{length, getD}
+use lib.Dec.{eqb, ltb, leb}
+use Rattle.rules.specs.Fold.{mostTo, joined, listTo}
+use Rattle.rules.specs.Layout.{hedge, bidCount, bidBreak, bidPrice, accreditation, capMark, priceCap}
+
+-- "M is the greatest break in a line's five bids"
+unfoldable pub bidMost : List ℕ → ℕ → ℕ
+bidMost w s = mostTo (bidCount w s) (bidBreak w s)
+
+unfoldable pub greatestBreak : List ℕ → ℕ
+greatestBreak w = mostTo 5 (bidMost w)
+
+-- a number put at its place in a rising list, unless it is there
+unfoldable pub insert : ℕ → List ℕ → List ℕ
+insert x [] = x ∷ []
+insert x (y ∷ ys) = cond (ltb x y) (x ∷ y ∷ ys) (cond (eqb x y) (y ∷ ys) (y ∷ insert x ys))
+
+-- the distinct numbers of a list, rising
+unfoldable pub rising : List ℕ → List ℕ
+rising [] = []
+rising (x ∷ xs) = insert x (rising xs)
+
+-- "Its steps end at every distinct break of the five bids and at the hedge if that isn't 0, rising; at most 56"
+unfoldable pub bidBreaks : List ℕ → ℕ → List ℕ
+bidBreaks w s = listTo (bidCount w s) (bidBreak w s)
+
+unfoldable pub hedgePoint : List ℕ → List ℕ
+hedgePoint w = cond (eqb (hedge w) 0) [] (hedge w ∷ [])
+
+unfoldable pub ends : List ℕ → List ℕ
+ends w = rising (hedgePoint w ++ joined 5 (bidBreaks w))
+
+unfoldable pub stepCount : List ℕ → ℕ
+stepCount w = length (ends w)
+
+unfoldable pub upperEnd : List ℕ → ℕ → ℕ
+upperEnd w j = getD (ends w) j 0
+
+-- "(0 before the first)"
+unfoldable pub lowerEnd : List ℕ → ℕ → ℕ
+lowerEnd w j = getD (0 ∷ ends w) j 0
+
+-- "A step's width is its upper end less the one before"
+unfoldable pub width : List ℕ → ℕ → ℕ
+width w j = upperEnd w j - lowerEnd w j
+
+-- "the first bid step whose break is at least its upper end": of the m bid steps from j on, and j + m where there is none
+unfoldable pub stepFrom : (ℕ → ℕ) → ℕ → ℕ → ℕ → ℕ
+stepFrom br u j zero = j
+stepFrom br u j (suc m) = cond (leb u (br j)) j (stepFrom br u (suc j) m)
+
+unfoldable pub bidStep : List ℕ → ℕ → ℕ → ℕ
+bidStep w s u = stepFrom (bidBreak w s) u 0 (bidCount w s)
+
+-- "In schedule s its price is that of the first bid step whose break is at least its upper end.
+-- If there is none, the price is the bid's last price and the flag is 1. Otherwise the flag is 0": of the step that ends at u
+unfoldable pub price : List ℕ → ℕ → ℕ → ℕ
+price w s u =
+    cond (ltb (bidStep w s u) (bidCount w s))
+    (bidPrice w s (bidStep w s u))
+    (bidPrice w s (bidCount w s - 1))
+
+unfoldable pub flag : List ℕ → ℕ → ℕ → ℕ
+flag w s u = cond (ltb (bidStep w s u) (bidCount w s)) 0 1
+
+-- "Then, if the cap mark of s is 1, the price is the lesser of it and APC", on the day d
+unfoldable pub capped : List ℕ → ℕ → ℕ → ℕ
+capped d s p = cond (eqb (capMark d s) 1) (min p (priceCap d)) p
+
+-- "A step is hedged if its upper end is at most the hedge"
+unfoldable pub hedged : List ℕ → ℕ → Bool
+hedged w u = leb u (hedge w)
+
+-- "A step is paid if its line is accredited and it isn't hedged" (document 01, "Payments"), asked in schedule s
+unfoldable pub accredited : List ℕ → ℕ → Bool
+accredited w s = eqb (accreditation w) 1
+
+unfoldable pub paid : List ℕ → ℕ → ℕ → Bool
+paid w u s = accredited w s && not (hedged w u)

@@ -1,0 +1,42 @@
+// The answers of the entry points as plain data. What they hold is defined in specs/: `cutAnswer` and `viewAnswer`.
+
+// The cutter's answer for one line (document 01, "Steps and prices"). Places past the count are 0.
+pub struct Cut {
+    // 0, or the refusal
+    pub number: u32,
+    // how many steps
+    pub count: u32,
+    // upper ends, rising
+    pub ends: [u32; 56],
+    // uncapped prices: step k in schedule s (from 0) at 56 s + k
+    pub prices: [u32; 280],
+    // for each schedule a word of missing-price flags, bit k for step k
+    pub flags: [u64; 5],
+    // for each schedule how many flags are set
+    pub missing: [u32; 5],
+}
+
+// The step view's answer (document 01, "Totals and book"). Arrays of five are by schedule.
+pub struct View {
+    // 0, or the refusal
+    pub number: u32,
+    pub end: u32,
+    pub width: u32,
+    // effective actual on the step
+    pub actual: u32,
+    // capped
+    pub price: [u32; 5],
+    pub flag: [u32; 5],
+    // O, E, AGINO, MSIQ, C
+    pub operating: [u32; 5],
+    pub pricing: [u32; 5],
+    pub agino: [u32; 5],
+    pub msiq: [u32; 5],
+    pub constrained: [u32; 5],
+    // m(1,2) m(1,3) m(2,3) m(1,4) .. m(4,5)
+    pub matches: [u32; 10],
+    pub initial: [i64; 5],
+    pub revised: [i64; 5],
+    pub modified: [i64; 5],
+    pub finals: [i64; 5],
+}

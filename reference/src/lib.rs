@@ -1,0 +1,18 @@
+//! Ancillary payments of one gas day, written from document 01 (the scope) and the functional design (FD).
+
+pub mod cut;
+pub mod figures;
+pub mod generate;
+pub mod k10;
+pub mod layout;
+pub mod line_part;
+pub mod matching;
+pub mod pack;
+pub mod payments;
+pub mod pools;
+pub mod quantities;
+pub mod refusal;
+pub mod report;
+pub mod settle;
+pub mod totals;
+pub mod view;

@@ -1,0 +1,119 @@
+//! What the programs print (01 K10).
+
+use crate::cut::{cut, Cut};
+use crate::layout::*;
+use crate::refusal::day_number;
+use crate::settle::settle;
+use crate::view::{DayView, View};
+use std::fmt::{Display, Write};
+
+/// A program reads at most so many bytes of a day or a line.
+pub const MOST_INPUT: usize = 65_536;
+
+pub fn refused(number: u32) -> String {
+    format!("refused {number}\n")
+}
+
+/// The settling program's report of a day.
+pub fn settle_report(day: &[u8]) -> String {
+    let mut book = [0; book_length(MOST_LINES)];
+    match settle(day, &mut book) {
+        0 => book_report(&book),
+        number => refused(number),
+    }
+}
+
+/// The cutting program's report of a line.
+pub fn cut_report(line: &[u8]) -> String {
+    match cut(line) {
+        answer @ Cut { number: 0, .. } => steps_of_cut(&answer),
+        Cut { number, .. } => refused(number),
+    }
+}
+
+/// The report of every step of every line of a day.
+pub fn steps_report(day: &[u8]) -> String {
+    match day_number(day) {
+        0 => views_report(&DayView::new(day)),
+        number => refused(number),
+    }
+}
+
+fn book_report(book: &[u8]) -> String {
+    let lines = word(book, 0) as usize;
+    let mut text = format!("day {lines}\n");
+    let starts = (0..lines).map(book_length);
+    for part in starts.map(|start| &book[start..start + BOOK_LINE_BYTES]) {
+        put_key(&mut text, part);
+        put(&mut text, &format!(" {}", word(part, 3)), &signed_row(part, 16, 8));
+    }
+    put(&mut text, "total", &signed_row(book, BOOK_TOTALS_OFFSET, 16));
+    put(&mut text, "adjusted", &signed_row(book, BOOK_TOTALS_OFFSET + 8, 16));
+    text
+}
+
+fn signed_row(bytes: &[u8], offset: usize, apart: usize) -> BySchedule<i64> {
+    std::array::from_fn(|s| signed(bytes, offset + apart * s))
+}
+
+fn steps_of_cut(answer: &Cut) -> String {
+    let mut text = format!("cut {}\n", answer.count);
+    for k in 0..answer.count as usize {
+        put(&mut text, &answer.ends[k].to_string(), &answer.prices.map(|row| row[k]));
+    }
+    put(&mut text, "flags", &answer.flags);
+    put(&mut text, "missing", &answer.missing);
+    text
+}
+
+fn views_report(views: &DayView) -> String {
+    let mut text = String::new();
+    for (k, line) in views.day.lines().enumerate() {
+        let key = [PARTICIPANT, POINT, SIDE].map(|place| line.word(place).to_le_bytes());
+        write!(text, "line {k} ").unwrap();
+        put_key(&mut text, key.as_flattened());
+        let steps: Vec<View> = views.line(line).collect();
+        put(&mut text, "", &[steps.len()]);
+        for (j, step) in steps.iter().enumerate() {
+            put(&mut text, &format!("step {j}"), &[step.upper, step.width, step.actual]);
+            (0..SCHEDULES).for_each(|s| put_schedule(&mut text, step, s));
+            put(&mut text, "matches", &step.matches);
+        }
+    }
+    text
+}
+
+fn put_schedule(text: &mut String, step: &View, s: usize) {
+    let quantities = [
+        step.price[s],
+        step.flag[s],
+        step.operating[s],
+        step.pricing[s],
+        step.agino[s],
+        step.msiq[s],
+        step.constrained_on[s],
+    ];
+    let payments = [step.initial[s], step.revised[s], step.modified[s], step.finals[s]];
+    let mut row = vec![s as i64 + 1];
+    row.extend(quantities.map(i64::from));
+    row.extend(payments);
+    put(text, &row[0].to_string(), &row[1..]);
+}
+
+/// Participant, point and side, from words in this order.
+fn put_key(text: &mut String, words: &[u8]) {
+    let side = match Side::of_word(word(words, 2)) {
+        Side::Injection => "INJ",
+        Side::Withdrawal => "WDR",
+    };
+    write!(text, "{} {} {side}", word(words, 0), word(words, 1)).unwrap();
+}
+
+/// A heading, values with a space before each, and a line feed.
+fn put<T: Display>(text: &mut String, heading: &str, values: &[T]) {
+    text.push_str(heading);
+    for value in values {
+        write!(text, " {value}").unwrap();
+    }
+    text.push('\n');
+}

@@ -1,0 +1,90 @@
+//! The step view (01 "Totals and book", last sentences).
+
+use crate::cut::{Step, Steps};
+use crate::figures::LineFigures;
+use crate::layout::*;
+use crate::matching::PAIRS;
+use crate::payments::finals;
+use crate::pools::Pools;
+use crate::refusal::view_number;
+
+/// The figures of one step. `price` is capped. A refused view has its number and zeros.
+#[derive(Clone, Debug, Default, PartialEq, Eq)]
+pub struct View {
+    pub number: u32,
+    pub upper: u32,
+    pub width: u32,
+    pub price: BySchedule<u32>,
+    pub flag: BySchedule<u32>,
+    pub operating: BySchedule<u32>,
+    pub pricing: BySchedule<u32>,
+    pub actual: u32,
+    pub agino: BySchedule<u32>,
+    pub msiq: BySchedule<u32>,
+    pub constrained_on: BySchedule<u32>,
+    /// In the order of `matching::pair`.
+    pub matches: [u32; PAIRS],
+    pub initial: BySchedule<i64>,
+    pub revised: BySchedule<i64>,
+    pub modified: BySchedule<i64>,
+    pub finals: BySchedule<i64>,
+}
+
+/// Line and step count from 0.
+pub fn view(day: &[u8], line: u64, step: u64) -> View {
+    let number = view_number(day, line, step);
+    if number != 0 {
+        return View { number, ..View::default() };
+    }
+    let day = DayView::new(day);
+    let line = day.day.line(line as usize);
+    let step = Steps::new(line).nth(step as usize).unwrap();
+    day.step(&LineFigures::new(&day.day.market, line), &step)
+}
+
+/// A day without fault and its pools, worked out once for all its steps.
+pub struct DayView<'a> {
+    pub day: Day<'a>,
+    pools: Pools,
+}
+
+impl<'a> DayView<'a> {
+    pub fn new(day: &'a [u8]) -> DayView<'a> {
+        let day = Day::new(day);
+        let pools = Pools::new(&day);
+        DayView { day, pools }
+    }
+
+    /// The views of a line's steps, in order.
+    pub fn line(&self, line: Line<'a>) -> impl Iterator<Item = View> + '_ {
+        let figures = LineFigures::new(&self.day.market, line);
+        Steps::new(line).map(move |step| self.step(&figures, &step))
+    }
+
+    fn step(&self, line: &LineFigures, step: &Step) -> View {
+        let figures = line.step(step);
+        let pools = self.pools.side(line.side);
+        let falls = &figures.matching.falls;
+        let payments = figures.payments;
+        let finals = finals(self.day.market.clawback, &step.flags, falls, &payments, pools);
+        let quantities = figures.quantities;
+        View {
+            number: 0,
+            upper: step.upper,
+            width: step.upper - step.lower,
+            price: figures.prices,
+            flag: step.flags.map(u32::from),
+            operating: quantities.operating,
+            pricing: quantities.pricing,
+            actual: quantities.actual,
+            agino: quantities.agino,
+            msiq: quantities.msiq,
+            constrained_on: quantities.constrained_on,
+            matches: figures.matching.matches,
+            initial: payments.initial,
+            revised: payments.revised,
+            modified: payments.modified,
+            finals,
+        }
+    }
+}
