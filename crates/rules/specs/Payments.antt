@@ -9,23 +9,8 @@ use Rattle.rules.specs.Fold.{sumTo, sumZ, someTo, eqbZ, five, at}
 use Rattle.rules.specs.Layout.{lineCount, marketPrice, clawback, lineAt, side, withdrawal}
 use Rattle.rules.specs.Steps.{stepCount, upperEnd, lowerEnd, price, flag, capped, paid}
 use Rattle.rules.specs.Quantities.{pricingTotal, operatingTotal, effectiveActual, allocated, agino, msiq, constrained}
+use Rattle.rules.specs.declared.Step.{Step}
 use Rattle.rules.specs.Matching.{earlier, rise, fall, matched}
-
--- What one step's figures are worked out from; each list has a value for each schedule.
-pub record Step : Type 0 where
-  -- 0 injection, 1 withdrawal
-  pub side : ℕ
-  pub lower : ℕ
-  pub upper : ℕ
-  -- capped prices, flags, market prices, and 1 where the step is paid
-  pub price : List ℕ
-  pub flag : List ℕ
-  pub market : List ℕ
-  pub paid : List ℕ
-  -- the line's pricing and operating totals, and its effective actual
-  pub pricing : List ℕ
-  pub operating : List ℕ
-  pub actual : ℕ
 
 -- "On a step, O(s) is operating, E(s) pricing, A effective actual" (document 01, "Quantities")
 unfoldable pub operatingOn : Step → ℕ → ℕ

@@ -1,4 +1,5 @@
-// The answers of the entry points as plain data. What they hold is defined in specs/: `cutAnswer` and `viewAnswer`.
+// The answers of the entry points and what one step is worked out from, as plain data. What they hold is defined in specs/:
+// `cutAnswer`, `viewAnswer` and `stepOf`.
 
 // The cutter's answer for one line (document 01, "Steps and prices"). Places past the count are 0.
 pub struct Cut {
@@ -39,4 +40,24 @@ pub struct View {
     pub revised: [i64; 5],
     pub modified: [i64; 5],
     pub finals: [i64; 5],
+}
+
+// What one step's figures are worked out from. Arrays are by schedule.
+pub struct Step {
+    // 0 injection, 1 withdrawal
+    pub side: u32,
+    // the upper end of the step before, and the step's own
+    pub lower: u32,
+    pub upper: u32,
+    // capped
+    pub price: [u32; 5],
+    pub flag: [u32; 5],
+    // market prices
+    pub market: [u32; 5],
+    // 1 where the step is paid, else 0
+    pub paid: [u32; 5],
+    // the line's pricing and operating totals, and its effective actual
+    pub pricing: [u32; 5],
+    pub operating: [u32; 5],
+    pub actual: u32,
 }

@@ -1,0 +1,3 @@
+-- Laws on the definitions of `rules`, which the proofs of the code cite.
+pub mod Folds
+pub mod Ints

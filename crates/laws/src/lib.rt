@@ -1,0 +1,1 @@
+// Laws on the definitions of `rules`, in specs/. No code.
