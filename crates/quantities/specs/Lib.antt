@@ -1,0 +1,2 @@
+-- What the contracts of `quantities` cite beside `rules`, and laws of its quantities.
+pub mod Rows
