@@ -36,6 +36,12 @@ pub fn greater64(a: u64, b: u64) -> u64
     if a < b { b } else { a }
 }
 
+pub fn less64(a: u64, b: u64) -> u64
+    ensures { λ r. ⌜ r ≡ a - b ⌝ }
+{
+    if b < a { a - b } else { 0 }
+}
+
 pub fn wide(x: u32) -> u64
     ensures { λ r. ⌜ r ≡ x ⌝ }
 {

@@ -1,5 +1,5 @@
 -- Rows of five as the code has them: rates, quantities of paid steps, money as what is paid and what is taken back, pools.
-use Prim.Native.Nat.{ℕ, _+_, _*_, _-_, _≤_, max}
+use Prim.Native.Nat.{ℕ, _+_, _*_, _-_, _≤_, _<_, _^_, max}
 use mathlib.Core.Bool.{Bool, cond, not}
 use mathlib.Core.List.{List}
 use lib.Dec.{eqb, ltb}
@@ -12,7 +12,7 @@ use Rattle.rules.specs.declared.Step.{Step}
 use Rattle.laws.specs.Ints.{pl, mi}
 use Rattle.payments.specs.declared.Money.{Money}
 use Rattle.payments.specs.declared.SidePool.{SidePool}
-use Rattle.payments.specs.Parts.{changeOn}
+use Rattle.payments.specs.Parts.{changeOn, takenBack}
 
 -- the rate at which a match with the rise of r is revised, from the step's prices and the price and market price of its fall
 unfoldable pub revisedAt : ℕ → List ℕ → ℕ → ℕ → ℕ → ℕ
@@ -27,6 +27,10 @@ productIn a b s = at a s * at b s
 
 unfoldable pub sumIn : List ℕ → List ℕ → ℕ → ℕ
 sumIn a b s = at a s + at b s
+
+-- 1 where two rows differ
+unfoldable pub differIn : List ℕ → List ℕ → ℕ → ℕ
+differIn a b s = bit (not (eqb (at a s) (at b s)))
 
 -- what the matches m of one schedule give back at the rates f: no rise is matched after the fourth schedule
 unfoldable pub givenAt : List ℕ → List ℕ → ℕ
@@ -87,6 +91,26 @@ poolAt p s =
 -- the final payments of a step, from the clawback switch and its side's pool
 unfoldable pub finalOn : Step → ℕ → SidePool → ℕ → ℤ
 finalOn x claw p s = finalPayment x claw s (poolAt p s)
+
+-- T and B of a pool, by schedule; T as `sharedTotal` has it
+unfoldable pub totalIn : SidePool → ℕ → ℕ
+totalIn p s = cond (eqb (at (p .differs) s) 0) 0 (at (p .plus) s - at (p .minus) s)
+
+unfoldable pub baseIn : SidePool → ℕ → ℕ
+baseIn p s = max (at (p .rises) s) (at (p .falls) s)
+
+-- what the final payment takes back in schedule s, from rows of what `takenBack` is worked out from
+unfoldable pub takenIn : ℕ → List ℕ → List ℕ → List ℕ → List ℕ → List ℕ → List ℕ → List ℕ → ℕ → ℕ
+takenIn claw flag i r m d t b s =
+    cond (eqb s 0) (at i s) (takenBack claw (at flag s) (at i s) (at r s) (at m s) (at d s) (at t s) (at b s))
+
+-- what a share of t by d of b needs, where i and r are what initial and revised take back
+pub record Sharing (i r d t b : ℕ) : Type 0 where
+  pub part : d ≤ b
+  pub some : 0 < i → 0 < b
+  pub base : b < 2 ^ 34
+  pub fall : d < 2 ^ 28
+  pub fits : r + t < 2 ^ 64
 
 -- a pool with the step in it, of at most 64 lines within the limits
 pub record InPool (x : Step) (p : SidePool) : Type 0 where
