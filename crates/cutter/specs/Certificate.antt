@@ -15,10 +15,10 @@ use Rattle.rules.specs.Refusals.{lineFault, bidFault, breakFault, priceFault, o
 use Rattle.rules.specs.Cutting.{stepPlaces, prices, flags, flagWord, missing, priceRow, cutOf, cutRefused, cutAnswer, bits}
 use Rattle.rules.specs.declared.Cut.{Cut}
 use Rattle.laws.specs.Folds.{Both, orElse-both, refuse-zero, first-at, sum-none, sum-suc, sum-same}
+use Rattle.laws.specs.Accepted.{AcceptedLine, accepted-line}
 use Rattle.cutter.specs.Lists.{_∈_, in-at, place-of, rises-at, rises-mono}
-use Rattle.cutter.specs.Ends.{Bids, EndOf, end-of, of-end, ends-rise, count-most, count-some, last-is}
-use Rattle.cutter.specs.Acceptance.{bids-of}
-use Rattle.cutter.specs.Prices.{PriceRule, price-rule, price-order, flag-most, flag-stays}
+use Rattle.cutter.specs.Ends.{EndOf, end-of, of-end, ends-rise, count-most, count-some, last-is}
+use Rattle.cutter.specs.Prices.{PriceRule, price-rule, price-order, flag-stays, prices-length, prices-at, flags-length, flags-at, flags-most}
 use Rattle.cutter.specs.Arrays.{bitAt, padded-at, padded-length, map-at, rows-at, five-at, bits-at, sum-places}
 
 -- the answer's upper end of step k, the one before (0 before the first), and the width
@@ -78,7 +78,7 @@ unfolding cutAnswer
 answer-whole w e = rw (eq-eqb (cutFault w) 0 e)
 
 -- the answer's places
-module _ (w : List ℕ) (h : Bids w) where
+module _ (w : List ℕ) (h : AcceptedLine w) where
   end-at : (k : ℕ) → endAt (cutOf w) k ≡ upperEnd w k
   unfolding endAt cutOf upperEnd
   end-at k = padded-at 56 (ends w) k
@@ -93,46 +93,30 @@ module _ (w : List ℕ) (h : Bids w) where
   width-at k = rw (end-at k, before-at k)
 
   row-length : (s : ℕ) → length (priceRow w s) ≡ 56
-  unfolding priceRow prices stepCount
+  unfolding priceRow
   row-length s =
       let c = count-most w h in
-      padded-length 56 (prices w s) (rw (length-map (ends w) (price w s)) c)
+      padded-length 56 (prices w s) (rw (prices-length w s) c)
 
   price-at : (s k : ℕ) → s < 5 → k < stepCount w → priceAt (cutOf w) s k ≡ price w s (upperEnd w k)
-  unfolding priceAt cutOf upperEnd stepCount priceRow prices
+  unfolding priceAt cutOf priceRow
   price-at s k a b =
       let c = count-most w h in
-      rows-at 5 (priceRow w) (λ i l. row-length i) s k a (omega arith) ∙ padded-at 56 (prices w s) k ∙ map-at (price w s) (ends w) k b
-
-  flags-at : (s k : ℕ) → k < stepCount w → getD (flags w s) k 0 ≡ flag w s (upperEnd w k)
-  unfolding flags upperEnd stepCount
-  flags-at s k b = map-at (flag w s) (ends w) k b
-
-  flags-length : (s : ℕ) → length (flags w s) ≡ stepCount w
-  unfolding flags stepCount
-  flags-length s = length-map (ends w) (flag w s)
-
-  flags-most : (s k : ℕ) → getD (flags w s) k 0 ≤ 1
-  flags-most s k =
-      let e = flags-length s in
-      elim (decLt k (stepCount w)) [
-        | yes l ↦ rw (flags-at s k l) (flag-most w s (upperEnd w k))
-        | no g ↦ let z = List·getD-eq-default (flags w s) 0 {n = k} (omega arith) in omega arith
-      ]
+      rows-at 5 (priceRow w) (λ i l. row-length i) s k a (omega arith) ∙ padded-at 56 (prices w s) k ∙ prices-at w s k b
 
   bit-at : (s k : ℕ) → s < 5 → flagAt (cutOf w) s k ≡ getD (flags w s) k 0
   unfolding flagAt cutOf flagWord
-  bit-at s k a = rw (five-at (flagWord w) s a) (bits-at (flags w s) (flags-most s) k)
+  bit-at s k a = rw (five-at (flagWord w) s a) (bits-at (flags w s) (flags-most w s) k)
 
   flag-at : (s k : ℕ) → s < 5 → k < stepCount w → flagAt (cutOf w) s k ≡ flag w s (upperEnd w k)
-  flag-at s k a b = bit-at s k a ∙ flags-at s k b
+  flag-at s k a b = bit-at s k a ∙ flags-at w s k b
 
   missing-at : (s : ℕ) → s < 5 → getD (cutOf w .missing) s 0 ≡ sumTo (stepCount w) (flagAt (cutOf w) s)
   unfolding cutOf missing
   missing-at s a =
       five-at (missing w) s a
       ∙ sum-places (flags w s)
-      ∙ rw (flags-length s) (sum-same (stepCount w) (λ k. getD (flags w s) k 0) (flagAt (cutOf w) s) (λ k l. sym (bit-at s k a)))
+      ∙ rw (flags-length w s) (sum-same (stepCount w) (λ k. getD (flags w s) k 0) (flagAt (cutOf w) s) (λ k l. sym (bit-at s k a)))
 
   end-rises : (k : ℕ) → k < stepCount w → before (upperEnd w) k < upperEnd w k
   unfolding stepCount upperEnd before
@@ -157,7 +141,7 @@ unfolding before
 before-last zero f h = absurd (omega arith)
 before-last (suc n) f h = ap f (omega arith)
 
-certified-whole : (w : List ℕ) → Bids w → CutterCertificate w (cutOf w)
+certified-whole : (w : List ℕ) → AcceptedLine w → CutterCertificate w (cutOf w)
 unfolding cutOf
 certified-whole w h =
     record {
@@ -196,5 +180,5 @@ pub certified : (w : List ℕ) (r : Cut) → r ≡ cutAnswer w → r .number ≡
 unfolding cutFault
 certified w r e n =
     let f = fault-none w (sym (ap (λ (c : Cut). c .number) e) ∙ n) in
-    let h = bids-of w (orElse-both _ _ f .right) in
+    let h = accepted-line w (orElse-both _ _ f .right) in
     subst (λ (c : Cut). CutterCertificate w c) (sym (e ∙ answer-whole w f)) (certified-whole w h)

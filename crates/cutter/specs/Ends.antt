@@ -15,18 +15,10 @@ use Rattle.rules.specs.Layout.{quantityMost, side, hedge, bidCount, bidBreak, b
 use Rattle.rules.specs.Refusals.{outOfOrder}
 use Rattle.rules.specs.Steps.{ends, rising, hedgePoint, bidBreaks, stepCount, upperEnd, greatestBreak, bidMost}
 use Rattle.laws.specs.Folds.{joined-none, joined-suc, list-length, most-least, most-term}
+use Rattle.laws.specs.Accepted.{AcceptedLine}
 use Rattle.cutter.specs.Lists.{_∈_, here, there, in-cons, in-none, in-left, in-right, in-append, in-at, Place, place-of}
 use Rattle.cutter.specs.Lists.{in-list, ListPlace, list-in, in-joined, JoinedPlace, joined-in, in-rising, rising-in}
 use Rattle.cutter.specs.Lists.{Rises, rises-rising, rising-length, rises-mono}
-
--- what an accepted line's bids and hedge are
-pub record Bids (w : List ℕ) : Type 0 where
-  pub some : (s : ℕ) → s < 5 → 0 < bidCount w s
-  pub few : (s : ℕ) → s < 5 → bidCount w s ≤ 11
-  pub rise : (s : ℕ) → s < 5 → (j : ℕ) → j < bidCount w s → before (bidBreak w s) j < bidBreak w s j
-  pub limit : (s : ℕ) → s < 5 → (j : ℕ) → j < bidCount w s → bidBreak w s j ≤ quantityMost
-  pub order : (s : ℕ) → s < 5 → (j : ℕ) → suc j < bidCount w s → outOfOrder (side w) (bidPrice w s j) (bidPrice w s (suc j)) ≡ false
-  pub most : hedge w ≤ greatestBreak w
 
 -- "every distinct break of the five bids and .. the hedge if that isn't 0": what makes u an upper end
 pub data EndOf (w : List ℕ) (u : ℕ) : Type 0 where
@@ -76,8 +68,8 @@ of-end w u (of-hedge p e) =
     (in-left (joined 5 (bidBreaks w)) (subst (λ (x : ℕ). x ∈ unlessZero (hedge w)) (sym e) (in-unless (hedge w) p)))
 
 -- each is above 0, at most M, and at most the limit
-pub end-above : (w : List ℕ) → Bids w → (u : ℕ) → EndOf w u → 0 < u
-end-above w h u (of-break s j a b e) = let c = h .rise s a j b in omega arith
+pub end-above : (w : List ℕ) → AcceptedLine w → (u : ℕ) → EndOf w u → 0 < u
+end-above w h u (of-break s j a b e) = let c = h .bids s a .rises j b in omega arith
 end-above w h u (of-hedge p e) = omega arith
 
 break-most : (w : List ℕ) (s j : ℕ) → s < 5 → j < bidCount w s → bidBreak w s j ≤ greatestBreak w
@@ -87,19 +79,19 @@ break-most w s j a b =
     let q = most-term 5 (bidMost w) s a in
     omega arith
 
-pub end-most : (w : List ℕ) → Bids w → (u : ℕ) → EndOf w u → u ≤ greatestBreak w
+pub end-most : (w : List ℕ) → AcceptedLine w → (u : ℕ) → EndOf w u → u ≤ greatestBreak w
 end-most w h u (of-break s j a b e) = let c = break-most w s j a b in omega arith
-end-most w h u (of-hedge p e) = let c = h .most in omega arith
+end-most w h u (of-hedge p e) = let c = h .hedge-most in omega arith
 
 -- M is the least number that every break is at most
 pub most-of : (w : List ℕ) (m : ℕ) → ((s j : ℕ) → s < 5 → j < bidCount w s → bidBreak w s j ≤ m) → greatestBreak w ≤ m
 unfolding greatestBreak bidMost
 most-of w m h = most-least 5 m (bidMost w) (λ s a. most-least (bidCount w s) m (bidBreak w s) (λ j b. h s j a b))
 
-pub most-limit : (w : List ℕ) → Bids w → greatestBreak w ≤ quantityMost
-most-limit w h = most-of w quantityMost (λ s j a b. h .limit s a j b)
+pub most-limit : (w : List ℕ) → AcceptedLine w → greatestBreak w ≤ quantityMost
+most-limit w h = most-of w quantityMost (λ s j a b. h .bids s a .break-most j b)
 
-pub ends-rise : (w : List ℕ) → Bids w → Rises 0 (ends w)
+pub ends-rise : (w : List ℕ) → AcceptedLine w → Rises 0 (ends w)
 unfolding ends
 ends-rise w h =
     rises-rising 0 (hedgePoint w ++ joined 5 (bidBreaks w))
@@ -113,25 +105,25 @@ joined-most (suc n) k f h =
     let e = h n (omega arith) in
     rw (joined-suc n f, length-append, suc-mul n k) (omega arith)
 
-pub count-most : (w : List ℕ) → Bids w → stepCount w ≤ 56
+pub count-most : (w : List ℕ) → AcceptedLine w → stepCount w ≤ 56
 unfolding stepCount ends hedgePoint
 count-most w h =
     let a = rising-length (hedgePoint w ++ joined 5 (bidBreaks w)) in
     let b = length-append (hedgePoint w) (joined 5 (bidBreaks w)) in
     let c = unless-length (hedge w) in
-    let d = joined-most 5 11 (bidBreaks w) (λ s l. unfold bidBreaks in rw (list-length (bidCount w s) (bidBreak w s)) (h .few s l)) in
+    let d = joined-most 5 11 (bidBreaks w) (λ s l. unfold bidBreaks in rw (list-length (bidCount w s) (bidBreak w s)) (h .bids s l .count-most)) in
     omega arith
 
 -- there is a step
-pub count-some : (w : List ℕ) → Bids w → 0 < stepCount w
+pub count-some : (w : List ℕ) → AcceptedLine w → 0 < stepCount w
 unfolding stepCount
 count-some w h =
-    let p = place-of (of-end w (bidBreak w 0 0) (of-break 0 0 (omega arith) (h .some 0 (omega arith)) refl)) in
+    let p = place-of (of-end w (bidBreak w 0 0) (of-break 0 0 (omega arith) (h .bids 0 (omega arith) .count-least) refl)) in
     let a = p .below in
     omega arith
 
 -- every end is at most the last
-pub end-last : (w : List ℕ) → Bids w → (u : ℕ) → EndOf w u → u ≤ upperEnd w (stepCount w - 1)
+pub end-last : (w : List ℕ) → AcceptedLine w → (u : ℕ) → EndOf w u → u ≤ upperEnd w (stepCount w - 1)
 unfolding stepCount upperEnd
 end-last w h u e =
     let p = place-of (of-end w u e) in
@@ -141,7 +133,7 @@ end-last w h u e =
     omega arith
 
 -- "the last is M"
-pub last-is : (w : List ℕ) → Bids w → upperEnd w (stepCount w - 1) ≡ greatestBreak w
+pub last-is : (w : List ℕ) → AcceptedLine w → upperEnd w (stepCount w - 1) ≡ greatestBreak w
 unfolding stepCount upperEnd
 last-is w h =
     let c = count-some w h in

@@ -2,7 +2,7 @@
 pub mod Search
 pub mod Lists
 pub mod Ends
-pub mod Acceptance
 pub mod Prices
 pub mod Arrays
 pub mod Certificate
+pub mod Sweep

@@ -5,13 +5,16 @@ use native.Mathlib.Decide.{decLt}
 use mathlib.Core.Path.{_≡_, refl, sym, _∙_, ap, subst}
 use mathlib.Core.Bool.{Bool, true, false, cond}
 use mathlib.Core.List.{List}
+use lib.ListN.{length, getD, length-map, List·getD-eq-default}
 use lib.Dec.{eqb, ltb}
 use borrow.Author.Tests.{lt-ltb, le-ltb, ltb-false}
 use Rattle.rules.specs.Layout.{side, bidCount, bidBreak, bidPrice}
 use Rattle.rules.specs.Refusals.{outOfOrder}
-use Rattle.rules.specs.Steps.{bidStep, price, flag}
+use Rattle.rules.specs.Steps.{ends, stepCount, upperEnd, bidStep, price, flag}
+use Rattle.rules.specs.Cutting.{prices, flags}
+use Rattle.laws.specs.Accepted.{AcceptedLine}
+use Rattle.cutter.specs.Arrays.{map-at}
 use Rattle.cutter.specs.Search.{First, step-first, first-mono}
-use Rattle.cutter.specs.Ends.{Bids}
 
 -- "its price is that of the first bid step whose break is at least its upper end. If there is none, the price is the bid's last price
 -- and the flag is 1. Otherwise the flag is 0": price p and flag f of the step that ends at u
@@ -115,9 +118,34 @@ price-min w s u h =
           price-none w s u (omega arith) ∙ ap (bidPrice w s) e
     ]
 
-pub price-order : (w : List ℕ) → Bids w → (s u v : ℕ) → s < 5 → u ≤ v → outOfOrder (side w) (price w s u) (price w s v) ≡ false
+pub price-order : (w : List ℕ) → AcceptedLine w → (s u v : ℕ) → s < 5 → u ≤ v → outOfOrder (side w) (price w s u) (price w s v) ≡ false
 price-order w h s u v l m =
-    let c = h .some s l in
+    let c = h .bids s l .count-least in
     let d = first-mono (bid-first w s u) (bid-first w s v) m in
     rw (price-min w s u c, price-min w s v c)
-    (order-places (side w) (bidCount w s) (bidPrice w s) (h .order s l) (min (bidStep w s u) (bidCount w s - 1)) (min (bidStep w s v) (bidCount w s - 1)) (omega arith) (omega arith))
+    (order-places (side w) (bidCount w s) (bidPrice w s) (h .bids s l .ordered) (min (bidStep w s u) (bidCount w s - 1)) (min (bidStep w s v) (bidCount w s - 1)) (omega arith) (omega arith))
+
+-- the steps' prices and flags, place by place
+pub prices-length : (w : List ℕ) (s : ℕ) → length (prices w s) ≡ stepCount w
+unfolding prices stepCount
+prices-length w s = length-map (ends w) (price w s)
+
+pub prices-at : (w : List ℕ) (s k : ℕ) → k < stepCount w → getD (prices w s) k 0 ≡ price w s (upperEnd w k)
+unfolding prices upperEnd stepCount
+prices-at w s k b = map-at (price w s) (ends w) k b
+
+pub flags-length : (w : List ℕ) (s : ℕ) → length (flags w s) ≡ stepCount w
+unfolding flags stepCount
+flags-length w s = length-map (ends w) (flag w s)
+
+pub flags-at : (w : List ℕ) (s k : ℕ) → k < stepCount w → getD (flags w s) k 0 ≡ flag w s (upperEnd w k)
+unfolding flags upperEnd stepCount
+flags-at w s k b = map-at (flag w s) (ends w) k b
+
+pub flags-most : (w : List ℕ) (s k : ℕ) → getD (flags w s) k 0 ≤ 1
+flags-most w s k =
+    let e = flags-length w s in
+    elim (decLt k (stepCount w)) [
+      | yes l ↦ rw (flags-at w s k l) (flag-most w s (upperEnd w k))
+      | no g ↦ let z = List·getD-eq-default (flags w s) 0 {n = k} (omega arith) in omega arith
+    ]
