@@ -17,20 +17,20 @@ use Rattle.laws.specs.Accepted.{AcceptedLine, AcceptedBid}
 use Rattle.cutter.specs.Search.{First, step-is, first-stays, first-moves}
 use Rattle.cutter.specs.Lists.{_∈_}
 use Rattle.cutter.specs.Ends.{end-of, end-most, most-limit, ends-rise}
-use Rattle.cutter.specs.Prices.{bid-first, price-found, price-none, flag-found, flag-none}
-use Rattle.cutter.specs.Sweep.{past, above, cursorAt, cursorFor, cursorMoved, hedgeMoved, sweepFor, sweepMoved, nextEnd, Within}
+use Rattle.cutter.specs.Prices.{bid-first, price-min, flag-found, flag-none}
+use Rattle.cutter.specs.Sweep.{past, above, headAt, cursorAt, cursorFor, stepPrice, headFlag, stepAfter, hedgeMoved, sweepFor, sweepMoved, nextEnd, Steady, Within}
 use Rattle.cutter.specs.declared.Cursor.{Cursor}
 use Rattle.cutter.specs.declared.Sweep.{Sweep}
 use Rattle.cutter.proofs.Least.{above-in, above-not, leastAbove, least-most, least-append, least-rising, least-one, least-before, least-after, least-next}
 
--- the cursor within its bid and past it
-pub cursor-here : (w : List ℕ) (s j : ℕ) → j < bidCount w s → cursorAt w s j ≡ record { at = j; head = bidBreak w s j; price = bidPrice w s j; missing = 0 }
-unfolding cursorAt
-cursor-here w s j h = rw (lt-ltb j (bidCount w s) h)
+-- a head within its bid and past it
+pub head-here : (w : List ℕ) (s j : ℕ) → j < bidCount w s → headAt w s j ≡ bidBreak w s j
+unfolding headAt
+head-here w s j h = rw (lt-ltb j (bidCount w s) h)
 
-pub cursor-gone : (w : List ℕ) (s j : ℕ) → bidCount w s ≤ j → cursorAt w s j ≡ record { at = j; head = past; price = bidPrice w s (bidCount w s - 1); missing = 1 }
-unfolding cursorAt
-cursor-gone w s j h = rw (le-ltb j (bidCount w s) h)
+pub head-gone : (w : List ℕ) (s j : ℕ) → bidCount w s ≤ j → headAt w s j ≡ past
+unfolding headAt
+head-gone w s j h = rw (le-ltb j (bidCount w s) h)
 
 -- breaks that rise
 rises-next : (br : ℕ → ℕ) (n : ℕ) → ((j : ℕ) → j < n → before br j < br j) → (k : ℕ) → suc k < n → br k < br (suc k)
@@ -50,43 +50,37 @@ rises-all br n h i (suc k) l m =
 module _ (w : List ℕ) (h : AcceptedLine w) (s : ℕ) (l : s < 5) (e : ℕ) where
   -- the step stays up to the head
   step-stays : (u : ℕ) → suc e ≤ u → u ≤ cursorFor w s e .head → bidStep w s u ≡ bidStep w s (suc e)
-  unfolding bidStep cursorFor
+  unfolding bidStep cursorFor cursorAt
   step-stays u a b =
-      step-is (first-stays (bid-first w s (suc e)) u a (λ j. rw (cursor-here w s (bidStep w s (suc e)) j) at b))
+      step-is (first-stays (bid-first w s (suc e)) u a (λ j. rw (head-here w s (bidStep w s (suc e)) j) at b))
 
   -- what stands at the cursor is the price and the flag of each end up to the head
-  pub cursor-price : (u : ℕ) → suc e ≤ u → u ≤ cursorFor w s e .head → cursorFor w s e .price ≡ price w s u
-  unfolding cursorFor
+  pub cursor-price : (u : ℕ) → suc e ≤ u → u ≤ cursorFor w s e .head → stepPrice w s (cursorFor w s e .at) ≡ price w s u
+  unfolding cursorFor cursorAt stepPrice
   cursor-price u a b =
-      let q = step-stays u a b in
-      elim (decLt (bidStep w s (suc e)) (bidCount w s)) [
-        | yes j ↦ rw (cursor-here w s (bidStep w s (suc e)) j, price-found w s u (omega arith), q)
-        | no g ↦ rw (cursor-gone w s (bidStep w s (suc e)) (omega arith), price-none w s u (omega arith))
-      ]
+      let c = h .bids s l .count-least in
+      sym (price-min w s u c ∙ ap (λ (j : ℕ). bidPrice w s (min j (bidCount w s - 1))) (step-stays u a b))
 
-  pub cursor-flag : (u : ℕ) → suc e ≤ u → u ≤ cursorFor w s e .head → cursorFor w s e .missing ≡ flag w s u
-  unfolding cursorFor
+  pub cursor-flag : (u : ℕ) → suc e ≤ u → u ≤ cursorFor w s e .head → headFlag (cursorFor w s e .head) ≡ flag w s u
+  unfolding cursorFor cursorAt headFlag
   cursor-flag u a b =
       let q = step-stays u a b in
       elim (decLt (bidStep w s (suc e)) (bidCount w s)) [
-        | yes j ↦ rw (cursor-here w s (bidStep w s (suc e)) j, flag-found w s u (omega arith))
-        | no g ↦ rw (cursor-gone w s (bidStep w s (suc e)) (omega arith), flag-none w s u (omega arith))
+        | yes j ↦
+            let m = h .bids s l .break-most (bidStep w s (suc e)) j in
+            rw (head-here w s (bidStep w s (suc e)) j, flag-found w s u (omega arith), ne-eqb (bidBreak w s (bidStep w s (suc e))) past (λ z. omega arith))
+        | no g ↦ rw (head-gone w s (bidStep w s (suc e)) (omega arith), flag-none w s u (omega arith))
       ]
 
-  pub cursor-within : cursorFor w s e .at ≤ 11
-  unfolding cursorFor
-  cursor-within =
-      let f = bid-first w s (suc e) in
-      let m = f .within in
+  cursor-within : (u : ℕ) → bidStep w s u ≤ 11
+  cursor-within u =
+      let m = bid-first w s u .within in
       let c = h .bids s l .count-most in
-      elim (decLt (bidStep w s (suc e)) (bidCount w s)) [
-        | yes j ↦ rw (cursor-here w s (bidStep w s (suc e)) j) (omega arith)
-        | no g ↦ rw (cursor-gone w s (bidStep w s (suc e)) (omega arith)) (omega arith)
-      ]
+      omega arith
 
   -- its head is the least break above e
   pub cursor-head : leastAbove e (bidBreaks w s) ≡ cursorFor w s e .head
-  unfolding cursorFor bidBreaks
+  unfolding cursorFor cursorAt bidBreaks
   cursor-head =
       let f = bid-first w s (suc e) in
       let r = rises-all (bidBreak w s) (bidCount w s) (rises-next (bidBreak w s) (bidCount w s) (h .bids s l .rises)) in
@@ -94,16 +88,15 @@ module _ (w : List ℕ) (h : AcceptedLine w) (s : ℕ) (l : s < 5) (e : ℕ) whe
       elim (decLt (bidStep w s (suc e)) (bidCount w s)) [
         | yes j ↦
             least-after (bidBreak w s) e (bidCount w s) (bidStep w s (suc e)) f r m (bidCount w s) j (omega arith)
-            ∙ rw (cursor-here w s (bidStep w s (suc e)) j)
+            ∙ sym (head-here w s (bidStep w s (suc e)) j)
         | no g ↦
             least-before (bidBreak w s) e (bidCount w s) (bidStep w s (suc e)) f r m (bidCount w s) (omega arith)
-            ∙ rw (cursor-gone w s (bidStep w s (suc e)) (omega arith))
+            ∙ sym (head-gone w s (bidStep w s (suc e)) (omega arith))
       ]
 
-  -- past u the cursor is the one at u
-  moves-in : (u : ℕ) → suc e ≤ u → (j : bidStep w s (suc e) < bidCount w s) → u ≤ bidBreak w s (bidStep w s (suc e)) → cursorMoved w s (cursorAt w s (bidStep w s (suc e))) u ≡ cursorFor w s u
-  unfolding cursorMoved cursorFor
-  moves-in u a j b =
+  -- past u the step is the first whose break is above u
+  after-in : (u : ℕ) → suc e ≤ u → bidStep w s (suc e) < bidCount w s → u ≤ bidBreak w s (bidStep w s (suc e)) → cond (eqb (bidBreak w s (bidStep w s (suc e))) u) (bidStep w s (suc e) + 1) (bidStep w s (suc e)) ≡ bidStep w s (suc u)
+  after-in u a j b =
       let f = bid-first w s (suc e) in
       let r = rises-next (bidBreak w s) (bidCount w s) (h .bids s l .rises) in
       let moves : bidBreak w s (bidStep w s (suc e)) ≡ u → bidStep w s (suc u) ≡ suc (bidStep w s (suc e)) =
@@ -112,25 +105,36 @@ module _ (w : List ℕ) (h : AcceptedLine w) (s : ℕ) (l : s < 5) (e : ℕ) whe
       let stays : u < bidBreak w s (bidStep w s (suc e)) → bidStep w s (suc u) ≡ bidStep w s (suc e) =
       λ q. unfold bidStep in step-is (first-stays f (suc u) (omega arith) (λ z. q))
       in
-      rw (cursor-here w s (bidStep w s (suc e)) j)
-      (elim (decLt u (bidBreak w s (bidStep w s (suc e)))) [
-        | yes k ↦ rw (ne-eqb (bidBreak w s (bidStep w s (suc e))) u (λ q. omega arith), stays k, cursor-here w s (bidStep w s (suc e)) j)
+      elim (decLt u (bidBreak w s (bidStep w s (suc e)))) [
+        | yes k ↦ rw (ne-eqb (bidBreak w s (bidStep w s (suc e))) u (λ q. omega arith), stays k)
         | no k ↦
             let q : bidBreak w s (bidStep w s (suc e)) ≡ u = omega arith in
             rw (eq-eqb (bidBreak w s (bidStep w s (suc e))) u q, moves q, add-one)
-      ])
+      ]
 
-  pub cursor-moves : (u : ℕ) → suc e ≤ u → u < past → u ≤ cursorFor w s e .head → cursorMoved w s (cursorFor w s e) u ≡ cursorFor w s u
-  unfolding cursorFor
-  cursor-moves u a p b =
+  step-moves : (u : ℕ) → suc e ≤ u → u < past → u ≤ cursorFor w s e .head → stepAfter (cursorFor w s e) u ≡ bidStep w s (suc u)
+  unfolding cursorFor cursorAt stepAfter
+  step-moves u a p b =
       let f = bid-first w s (suc e) in
       elim (decLt (bidStep w s (suc e)) (bidCount w s)) [
-        | yes j ↦ moves-in u a j (rw (cursor-here w s (bidStep w s (suc e)) j) at b)
+        | yes j ↦
+            let here = head-here w s (bidStep w s (suc e)) j in
+            rw here (after-in u a j (rw here at b))
         | no g ↦
-            let gone = cursor-gone w s (bidStep w s (suc e)) (omega arith) in
             let stays : bidStep w s (suc u) ≡ bidStep w s (suc e) = unfold bidStep in step-is (first-stays f (suc u) (omega arith) (λ j. absurd (omega arith))) in
-            rw (stays, gone) (unfold cursorMoved in rw (ne-eqb past u (λ q. omega arith)))
+            rw (stays, head-gone w s (bidStep w s (suc e)) (omega arith), ne-eqb past u (λ q. omega arith))
       ]
+
+  pub cursor-moves : (u : ℕ) → suc e ≤ u → u < past → u ≤ cursorFor w s e .head → cursorAt w s (stepAfter (cursorFor w s e) u) ≡ cursorFor w s u
+  unfolding cursorFor
+  cursor-moves u a p b = ap (cursorAt w s) (step-moves u a p b)
+
+  pub cursor-steady : (u : ℕ) → suc e ≤ u → u < past → u ≤ cursorFor w s e .head → Steady (cursorFor w s e) u
+  cursor-steady u a p b =
+      record {
+        at = unfold cursorFor cursorAt in cursor-within (suc e);
+        after = rw (step-moves u a p b) (cursor-within (suc u));
+      }
 
 pub hedge-moves : (h e u : ℕ) → h < past → suc e ≤ u → u < past → u ≤ above e h → hedgeMoved (above e h) u ≡ above u h
 unfolding hedgeMoved
@@ -195,15 +199,16 @@ sweep-moves w h e u a p q =
       fifth = cursor-moves w h 4 (omega arith) e u a p (m .fifth) i;
     }
 
-pub sweep-within : (w : List ℕ) → AcceptedLine w → (e : ℕ) → Within (sweepFor w e)
+pub sweep-within : (w : List ℕ) → AcceptedLine w → (e u : ℕ) → suc e ≤ u → u < past → u ≡ nextEnd (sweepFor w e) → Within (sweepFor w e) u
 unfolding sweepFor
-sweep-within w h e =
+sweep-within w h e u a p q =
+    let m : AtMost u (sweepFor w e) = rw q (at-most (sweepFor w e)) in
     record {
-      first = cursor-within w h 0 (omega arith) e;
-      second = cursor-within w h 1 (omega arith) e;
-      third = cursor-within w h 2 (omega arith) e;
-      fourth = cursor-within w h 3 (omega arith) e;
-      fifth = cursor-within w h 4 (omega arith) e;
+      first = cursor-steady w h 0 (omega arith) e u a p (m .first);
+      second = cursor-steady w h 1 (omega arith) e u a p (m .second);
+      third = cursor-steady w h 2 (omega arith) e u a p (m .third);
+      fourth = cursor-steady w h 3 (omega arith) e u a p (m .fourth);
+      fifth = cursor-steady w h 4 (omega arith) e u a p (m .fifth);
     }
 
 -- the least of the heads is the least end above e

@@ -96,7 +96,7 @@ module _ {w : List ℕ} {n : ℕ} {at : Sweep} {u : ℕ} {es ps : List ℕ} {x :
   most = rw least (at-most (sweepFor w (lowerEnd w n)))
 
   -- what the cursors stand at
-  prices-here : pricesPut ps at n ≡ putTo 5 ps n (λ s. price w s u)
+  prices-here : pricesPut w ps at n ≡ putTo 5 ps n (λ s. price w s u)
   unfolding pricesPut putTo sweepFor
   prices-here =
       let m = most in
@@ -129,7 +129,7 @@ module _ {w : List ℕ} {n : ℕ} {at : Sweep} {u : ℕ} {es ps : List ℕ} {x :
       let p : price w s u ≡ getD (prices w s) n 0 = ap (price w s) end-is ∙ sym (prices-at w s n below) in
       rw p (padded-set 56 n (prices w s) (omega arith) (omega arith))
 
-  prices-more : pricesPut ps at n ≡ joined 5 (rowTo w (suc n))
+  prices-more : pricesPut w ps at n ≡ joined 5 (rowTo w (suc n))
   prices-more =
       prices-here
       ∙ ap (λ (l : List ℕ). putTo 5 l n (λ s. price w s u)) (v .prices)
@@ -178,15 +178,15 @@ module _ {w : List ℕ} {n : ℕ} {at : Sweep} {u : ℕ} {es ps : List ℕ} {x :
         fifth = room-for 4 _ (cursor-flag w (h .accepted) 4 (omega arith) e u rises (m .fifth));
       })
 
-  pub at-within : Within at
-  at-within = rw (v .here) (sweep-within w (h .accepted) (lowerEnd w n))
+  pub at-within : Within at u
+  at-within = rw (v .here) (sweep-within w (h .accepted) (lowerEnd w n) u rises before-past least)
 
   moves : sweepMoved w at u ≡ sweepFor w (lowerEnd w (suc n))
   unfolding lowerEnd upperEnd
   moves =
       rw (v .here) (sweep-moves w (h .accepted) (lowerEnd w n) u rises before-past least) ∙ ap (sweepFor w) end-is
 
-  pub swept-more : {at' : Sweep} {u' : ℕ} {ps' : List ℕ} {x' : Words} → ps' ≡ pricesPut ps at n → x' ≡ wordsMarked x at n → at' ≡ sweepMoved w at u → u' ≡ nextEnd at' → Swept w (n + 1) at' u' (set es n u) ps' x'
+  pub swept-more : {at' : Sweep} {u' : ℕ} {ps' : List ℕ} {x' : Words} → ps' ≡ pricesPut w ps at n → x' ≡ wordsMarked x at n → at' ≡ sweepMoved w at u → u' ≡ nextEnd at' → Swept w (n + 1) at' u' (set es n u) ps' x'
   swept-more p q r s =
       let a = below in
       let c = count-most w (h .accepted) in

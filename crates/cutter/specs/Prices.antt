@@ -107,7 +107,7 @@ order-places sd n pr h i (suc j) l m =
     ]
 
 -- the price is that of the step found, or of the last
-price-min : (w : List ℕ) (s u : ℕ) → 0 < bidCount w s → price w s u ≡ bidPrice w s (min (bidStep w s u) (bidCount w s - 1))
+pub price-min : (w : List ℕ) (s u : ℕ) → 0 < bidCount w s → price w s u ≡ bidPrice w s (min (bidStep w s u) (bidCount w s - 1))
 price-min w s u h =
     elim (decLt (bidStep w s u) (bidCount w s)) [
       | yes l ↦

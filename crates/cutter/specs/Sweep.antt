@@ -28,12 +28,21 @@ pub record BidRead (w : List ℕ) (s : ℕ) : Type 0 where
 abbrev pub past : ℕ
 past = 4294967295
 
+-- the break of step j of the bid of schedule s, past where there is none
+unfoldable pub headAt : List ℕ → ℕ → ℕ → ℕ
+headAt w s j = cond (ltb j (bidCount w s)) (bidBreak w s j) past
+
+-- its price, the last where there is none
+unfoldable pub stepPrice : List ℕ → ℕ → ℕ → ℕ
+stepPrice w s j = bidPrice w s (min j (bidCount w s - 1))
+
+-- its flag, by its break
+unfoldable pub headFlag : ℕ → ℕ
+headFlag x = cond (eqb x past) 1 0
+
 -- the cursor of schedule s at step j of its bid
 unfoldable pub cursorAt : List ℕ → ℕ → ℕ → Cursor
-cursorAt w s j =
-    cond (ltb j (bidCount w s))
-    (record { at = j; head = bidBreak w s j; price = bidPrice w s j; missing = 0 })
-    (record { at = j; head = past; price = bidPrice w s (bidCount w s - 1); missing = 1 })
+cursorAt w s j = record { at = j; head = headAt w s j }
 
 -- the one at the first break above e
 unfoldable pub cursorFor : List ℕ → ℕ → ℕ → Cursor
@@ -56,8 +65,8 @@ sweepFor w e =
     }
 
 -- the moves past the end u
-unfoldable pub cursorMoved : List ℕ → ℕ → Cursor → ℕ → Cursor
-cursorMoved w s c u = cond (eqb (c .head) u) (cursorAt w s (c .at + 1)) c
+unfoldable pub stepAfter : Cursor → ℕ → ℕ
+stepAfter c u = cond (eqb (c .head) u) (c .at + 1) (c .at)
 
 unfoldable pub hedgeMoved : ℕ → ℕ → ℕ
 hedgeMoved h u = cond (eqb h u) past h
@@ -66,19 +75,24 @@ unfoldable pub sweepMoved : List ℕ → Sweep → ℕ → Sweep
 sweepMoved w at u =
     record {
       hedge = hedgeMoved (at .hedge) u;
-      first = cursorMoved w 0 (at .first) u;
-      second = cursorMoved w 1 (at .second) u;
-      third = cursorMoved w 2 (at .third) u;
-      fourth = cursorMoved w 3 (at .fourth) u;
-      fifth = cursorMoved w 4 (at .fifth) u;
+      first = cursorAt w 0 (stepAfter (at .first) u);
+      second = cursorAt w 1 (stepAfter (at .second) u);
+      third = cursorAt w 2 (stepAfter (at .third) u);
+      fourth = cursorAt w 3 (stepAfter (at .fourth) u);
+      fifth = cursorAt w 4 (stepAfter (at .fifth) u);
     }
 
-pub record Within (at : Sweep) : Type 0 where
-  pub first : at .first .at ≤ 11
-  pub second : at .second .at ≤ 11
-  pub third : at .third .at ≤ 11
-  pub fourth : at .fourth .at ≤ 11
-  pub fifth : at .fifth .at ≤ 11
+-- the cursor's step, and the one after, are among those that a line has words for
+pub record Steady (c : Cursor) (u : ℕ) : Type 0 where
+  pub at : c .at ≤ 11
+  pub after : stepAfter c u ≤ 11
+
+pub record Within (at : Sweep) (u : ℕ) : Type 0 where
+  pub first : Steady (at .first) u
+  pub second : Steady (at .second) u
+  pub third : Steady (at .third) u
+  pub fourth : Steady (at .fourth) u
+  pub fifth : Steady (at .fifth) u
 
 -- the least of the heads
 unfoldable pub nextEnd : Sweep → ℕ
@@ -93,11 +107,11 @@ pub record Room (x f n : ℕ) : Type 0 where
   pub step : n < 56
 
 pub record Markable (words : Words) (at : Sweep) (n : ℕ) : Type 0 where
-  pub first : Room (words .first) (at .first .missing) n
-  pub second : Room (words .second) (at .second .missing) n
-  pub third : Room (words .third) (at .third .missing) n
-  pub fourth : Room (words .fourth) (at .fourth .missing) n
-  pub fifth : Room (words .fifth) (at .fifth .missing) n
+  pub first : Room (words .first) (headFlag (at .first .head)) n
+  pub second : Room (words .second) (headFlag (at .second .head)) n
+  pub third : Room (words .third) (headFlag (at .third .head)) n
+  pub fourth : Room (words .fourth) (headFlag (at .fourth .head)) n
+  pub fifth : Room (words .fifth) (headFlag (at .fifth .head)) n
 
 abbrev pub withFlag : ℕ → ℕ → ℕ → ℕ
 withFlag word flag n = flag * 2 ^ n + word
@@ -105,15 +119,15 @@ withFlag word flag n = flag * 2 ^ n + word
 unfoldable pub wordsMarked : Words → Sweep → ℕ → Words
 wordsMarked words at n =
     record {
-      first = withFlag (words .first) (at .first .missing) n;
-      second = withFlag (words .second) (at .second .missing) n;
-      third = withFlag (words .third) (at .third .missing) n;
-      fourth = withFlag (words .fourth) (at .fourth .missing) n;
-      fifth = withFlag (words .fifth) (at .fifth .missing) n;
+      first = withFlag (words .first) (headFlag (at .first .head)) n;
+      second = withFlag (words .second) (headFlag (at .second .head)) n;
+      third = withFlag (words .third) (headFlag (at .third .head)) n;
+      fourth = withFlag (words .fourth) (headFlag (at .fourth .head)) n;
+      fifth = withFlag (words .fifth) (headFlag (at .fifth .head)) n;
     }
 
 -- the rows of prices with those of step n
-unfoldable pub pricesPut : List ℕ → Sweep → ℕ → List ℕ
-pricesPut l at n =
-    set (set (set (set (set l n (at .first .price)) (56 + n) (at .second .price)) (112 + n) (at .third .price)) (168 + n) (at .fourth .price)) (224 + n)
-    (at .fifth .price)
+unfoldable pub pricesPut : List ℕ → List ℕ → Sweep → ℕ → List ℕ
+pricesPut w l at n =
+    set (set (set (set (set l n (stepPrice w 0 (at .first .at))) (56 + n) (stepPrice w 1 (at .second .at))) (112 + n) (stepPrice w 2 (at .third .at))) (168 + n) (stepPrice w 3 (at .fourth .at))) (224 + n)
+    (stepPrice w 4 (at .fifth .at))

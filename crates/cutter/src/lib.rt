@@ -5,11 +5,11 @@
 use bytes_le::word_at;
 use rules::Cut;
 ghost use mathlib.Core.Path.{_≡_};
-ghost use Prim.Native.Nat.{_+_, _*_, _≤_, _<_, min};
+ghost use Prim.Native.Nat.{_+_, _*_, _-_, _≤_, _<_, min};
 ghost use lib.ListN.{length};
 ghost use Rattle.rules.specs.Layout.{bidCount, bidBreak, bidPrice};
 ghost use Rattle.rules.specs.Cutting.{cutOf};
-ghost use Rattle.cutter.specs.Sweep.{Line, BidRead, Within, Room, Markable, cursorAt, cursorMoved, above, hedgeMoved};
+ghost use Rattle.cutter.specs.Sweep.{Line, BidRead, Steady, Within, Room, Markable, headAt, cursorAt, stepPrice, headFlag, stepAfter, above, hedgeMoved};
 ghost use Rattle.cutter.specs.Sweep.{sweepFor, sweepMoved, nextEnd, withFlag, wordsMarked, pricesPut};
 
 // Above every break and hedge.
@@ -21,10 +21,6 @@ pub struct Cursor {
     pub at: usize,
     // its break, or PAST
     pub head: u32,
-    // its price, or the bid's last
-    pub price: u32,
-    // 1 past the bid's last step, else 0
-    pub missing: u64,
 }
 
 // The hedge while it is above the last end, else PAST; the five cursors.
@@ -54,51 +50,92 @@ fn bid_count(line: &[u8], s: usize) -> usize
 }
 
 fn bid_break(line: &[u8], s: usize, j: usize) -> u32
-    requires { ⌜ (length (now line) ≡ 660) × (s < 5) × (j < 11) ⌝ }
+    requires { ⌜ (length (now line) ≡ 660) × (s < 5) × (j < 12) ⌝ }
     ensures { λ r. ⌜ r ≡ bidBreak (now (line .entry)) s j ⌝ }
 {
     word_at(line, 4 * (5 + 23 * s + 1 + j))
 }
 
 fn bid_price(line: &[u8], s: usize, j: usize) -> u32
-    requires { ⌜ (length (now line) ≡ 660) × (s < 5) × (j < 11) ⌝ }
+    requires { ⌜ (length (now line) ≡ 660) × (s < 5) × (j < 12) ⌝ }
     ensures { λ r. ⌜ r ≡ bidPrice (now (line .entry)) s j ⌝ }
 {
     word_at(line, 4 * (5 + 23 * s + 12 + j))
 }
 
-// The cursor of schedule s at step j of its bid: the price and flag of every step that ends above the break before and at most at
-// this one, read from the line's bytes.
-fn cursor_at(line: &[u8], s: usize, j: usize) -> Cursor
-    requires { ⌜ BidRead (now line) s ⌝ }
-    ensures { λ r. ⌜ r ≡ cursorAt (now (line .entry)) s j ⌝ }
+// The break of step j of the bid of schedule s, or PAST. The word is read in either case, so that nothing has to be foreseen.
+fn head_at(line: &[u8], s: usize, j: usize) -> u32
+    requires { ⌜ BidRead (now line) s × (j ≤ 11) ⌝ }
+    ensures { λ r. ⌜ r ≡ headAt (now (line .entry)) s j ⌝ }
 {
-    let count = bid_count(line, s);
-    if j < count {
-        return Cursor {
-            at: j,
-            head: bid_break(line, s, j),
-            price: bid_price(line, s, j),
-            missing: 0,
-        };
+    let head = bid_break(line, s, j);
+    if j < bid_count(line, s) {
+        return head;
     }
+    PAST
+}
+
+// The bid step whose price stands for step j: the last where j is past it.
+fn priced_step(j: usize, count: usize) -> usize
+    requires { ⌜ 0 < count ⌝ }
+    ensures { λ r. ⌜ r ≡ min j (count - 1) ⌝ }
+{
+    if j < count {
+        return j;
+    }
+    count - 1
+}
+
+// The price of step j of the bid of schedule s, or its last, read from the line's bytes.
+fn price_at(line: &[u8], s: usize, j: usize) -> u32
+    requires { ⌜ BidRead (now line) s ⌝ }
+    ensures { λ r. ⌜ r ≡ stepPrice (now (line .entry)) s j ⌝ }
+{
+    bid_price(line, s, priced_step(j, bid_count(line, s)))
+}
+
+// 1 past a bid's last step, else 0.
+fn flag_of(head: u32) -> u64
+    ensures { λ r. ⌜ r ≡ headFlag head ⌝ }
+{
+    if head == PAST {
+        return 1;
+    }
+    0
+}
+
+// The bid step after the end u: the next where the cursor stood at u.
+fn step_after(c: Cursor, u: u32) -> usize
+    requires { ⌜ c .at ≤ 11 ⌝ }
+    ensures { λ r. ⌜ r ≡ stepAfter c u ⌝ }
+{
+    if c.head == u {
+        return c.at + 1;
+    }
+    c.at
+}
+
+// The cursor after the end u.
+fn moved(line: &[u8], s: usize, c: Cursor, u: u32) -> Cursor
+    requires { ⌜ BidRead (now line) s × Steady c u ⌝ }
+    ensures { λ r. ⌜ r ≡ cursorAt (now (line .entry)) s (stepAfter c u) ⌝ }
+{
+    let at = step_after(c, u);
     Cursor {
-        at: j,
-        head: PAST,
-        price: bid_price(line, s, count - 1),
-        missing: 1,
+        at,
+        head: head_at(line, s, at),
     }
 }
 
-// The cursor after the end u: it moves where it stood at u.
-fn moved(line: &[u8], s: usize, c: Cursor, u: u32) -> Cursor
-    requires { ⌜ BidRead (now line) s × (c .at ≤ 11) ⌝ }
-    ensures { λ r. ⌜ r ≡ cursorMoved (now (line .entry)) s c u ⌝ }
+// The cursor before the first end.
+fn cursor_start(line: &[u8], s: usize) -> Cursor
+    requires { ⌜ BidRead (now line) s ⌝ }
+    ensures { λ r. ⌜ r ≡ cursorAt (now (line .entry)) s 0 ⌝ }
 {
-    if c.head == u {
-        return cursor_at(line, s, c.at + 1);
+    Cursor {
+        at: 0,
+        head: head_at(line, s, 0),
     }
-    c
 }
 
 // The hedge's place before the first end.
@@ -128,17 +165,17 @@ fn start(line: &[u8]) -> Sweep
 {
     Sweep {
         hedge: hedge_start(word_at(line, 16)),
-        first: cursor_at(line, 0, 0),
-        second: cursor_at(line, 1, 0),
-        third: cursor_at(line, 2, 0),
-        fourth: cursor_at(line, 3, 0),
-        fifth: cursor_at(line, 4, 0),
+        first: cursor_start(line, 0),
+        second: cursor_start(line, 1),
+        third: cursor_start(line, 2),
+        fourth: cursor_start(line, 3),
+        fifth: cursor_start(line, 4),
     }
 }
 
 // After the end u.
 fn passed(line: &[u8], at: Sweep, u: u32) -> Sweep
-    requires { ⌜ Line (now line) × Within at ⌝ }
+    requires { ⌜ Line (now line) × Within at u ⌝ }
     ensures { λ r. ⌜ r ≡ sweepMoved (now (line .entry)) at u ⌝ }
 {
     Sweep {
@@ -185,24 +222,24 @@ fn marked(words: Words, at: Sweep, n: usize) -> Words
     ensures { λ r. ⌜ r ≡ wordsMarked words at n ⌝ }
 {
     Words {
-        first: with_flag(words.first, at.first.missing, n),
-        second: with_flag(words.second, at.second.missing, n),
-        third: with_flag(words.third, at.third.missing, n),
-        fourth: with_flag(words.fourth, at.fourth.missing, n),
-        fifth: with_flag(words.fifth, at.fifth.missing, n),
+        first: with_flag(words.first, flag_of(at.first.head), n),
+        second: with_flag(words.second, flag_of(at.second.head), n),
+        third: with_flag(words.third, flag_of(at.third.head), n),
+        fourth: with_flag(words.fourth, flag_of(at.fourth.head), n),
+        fifth: with_flag(words.fifth, flag_of(at.fifth.head), n),
     }
 }
 
 // The prices of step n, into each schedule's row.
-fn put_prices(prices: &mut [u32; 280], at: Sweep, n: usize)
-    requires { ⌜ n < 56 ⌝ }
-    ensures { λ _. ⌜ now (prices .exit) ≡ pricesPut (now (prices .entry)) at n ⌝ }
+fn put_prices(line: &[u8], prices: &mut [u32; 280], at: Sweep, n: usize)
+    requires { ⌜ Line (now line) × (n < 56) ⌝ }
+    ensures { λ _. ⌜ now (prices .exit) ≡ pricesPut (now (line .entry)) (now (prices .entry)) at n ⌝ }
 {
-    prices[n] = at.first.price;
-    prices[56 + n] = at.second.price;
-    prices[112 + n] = at.third.price;
-    prices[168 + n] = at.fourth.price;
-    prices[224 + n] = at.fifth.price;
+    prices[n] = price_at(line, 0, at.first.at);
+    prices[56 + n] = price_at(line, 1, at.second.at);
+    prices[112 + n] = price_at(line, 2, at.third.at);
+    prices[168 + n] = price_at(line, 3, at.fourth.at);
+    prices[224 + n] = price_at(line, 4, at.fifth.at);
 }
 
 // The steps of an accepted line.
@@ -224,7 +261,7 @@ fn steps(line: &[u8]) -> Cut
     let mut n: usize = 0;
     while u != PAST {
         ends[n] = u;
-        put_prices(&mut prices, at, n);
+        put_prices(line, &mut prices, at, n);
         words = marked(words, at, n);
         at = passed(line, at, u);
         u = next_end(at);

@@ -42,7 +42,7 @@ array-write-ends c = omega (arith, room (c .before .before .before .before .befo
 
 -- src/lib.rt:228:9
 put-prices-requires : tie.Need-put-prices-requires Inv-loop μ-loop
-put-prices-requires c κs = room (c .before .before .before .before .before .before .pre) (c .before .before .loop .inv) (c .before .loop-test .taken)
+put-prices-requires c κs = ((c .before .before .before .before .before .before .pre), room (c .before .before .before .before .before .before .pre) (c .before .before .loop .inv) (c .before .loop-test .taken))
 
 -- src/lib.rt:229:9
 marked-requires : tie.Need-marked-requires Inv-loop μ-loop
