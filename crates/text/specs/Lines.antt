@@ -10,7 +10,7 @@ use lib.IntN.{ℤ, pos, negsuc}
 use borrow.Author.Tests.{eq-eqb, ne-eqb}
 use mir.Syntax.{w64}
 use mir.Val.{SFits}
-use Rattle.rules.specs.Fold.{joined}
+use Rattle.rules.specs.Fold.{joined, five, atZ}
 use Rattle.rules.specs.Layout.{lineAt, participant, point, side}
 use Rattle.rules.specs.Steps.{stepCount}
 use Rattle.rules.specs.Book.{bits64}
@@ -60,6 +60,11 @@ five-is f = refl
 pub line-is : (p q sd n : ℕ) (f : ℕ → ℤ) → lineStart p q sd n f ++ lineFeed ≡ lineTextOf p q sd n f
 unfolding lineStart lineTextOf
 line-is p q sd n f = append-assoc (lineKey p q sd n) (numbers f) lineFeed ∙ ap (λ (t : List ℕ). lineKey p q sd n ++ t) (five-is f)
+
+-- five numbers as a list
+pub five-of : (f : ℕ → ℤ) → fiveNumbers (atZ (five f)) ≡ fiveNumbers f
+unfolding fiveNumbers joined numberAfter
+five-of f = refl
 
 -- a side's text
 pub side-withdrawal : (sd : ℕ) → sd ≡ 1 → withdrawalText ≡ sideText sd

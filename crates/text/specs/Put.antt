@@ -1,12 +1,14 @@
 -- What a writing function answers: its text put into the lent bytes from a place on (`sets`), and the place after it.
-use Prim.Native.Nat.{ℕ, suc, _+_, _≤_, _<_}
-use native.Mathlib.Nat.{add-zero}
+use Prim.Native.Nat.{ℕ, suc, _+_, _*_, _≤_, _<_}
+use native.Mathlib.Nat.{add-zero, mul-zero, mul-suc}
 use native.Mathlib.Numerals.{add-one}
 use native.Mathlib.Omega.{arith}
 use mathlib.Core.Path.{_≡_, refl, sym, _∙_, ap}
 use mathlib.Core.List.{List, [], _∷_, _++_}
 use lib.ListN.{length, set, take, getD, length-append}
 use lib.Seq.{sets, take-suc, take-all}
+use Rattle.rules.specs.Fold.{joined}
+use Rattle.laws.specs.Folds.{joined-none, joined-more}
 
 -- the text t, of at most `room` bytes, was put into the bytes l at `at`: r is the place after it, m the bytes then
 pub record Written (room : ℕ) (l : List ℕ) (at : ℕ) (t : List ℕ) (r : ℕ) (m : List ℕ) : Type 0 where
@@ -44,6 +46,13 @@ written-as e w = rw e at w
 pub written-within : {l m : List ℕ} {at r i j : ℕ} {t : List ℕ} → Written i l at t r m → length t ≤ j → Written j l at t r m
 written-within w h = record { most = h; end = w .end; bytes = w .bytes }
 
+pub written-wider : {l m : List ℕ} {at r : ℕ} {t : List ℕ} (i j : ℕ) → Written i l at t r m → i ≤ j → Written j l at t r m
+written-wider i j w h = written-within w (omega (arith, w .most))
+
+-- an empty text, at the first place
+pub written-nothing : (i : ℕ) (l : List ℕ) {t : List ℕ} → [] ≡ t → Written i l 0 t 0 l
+written-nothing i l e = written-as e (written-wider 0 i (written-none l 0) (omega arith))
+
 -- a text's first i bytes, then one more of them; all of them
 pub written-more : {l m : List ℕ} {at : ℕ} (t : List ℕ) (i : ℕ) → Written i l at (take i t) (at + i) m → i < length t
     → Written (i + 1) l at (take (i + 1) t) (at + (i + 1)) (set m (at + i) (getD t i 0))
@@ -54,3 +63,13 @@ written-more {l} {m} {at} t i w h =
 
 pub written-all : {l m : List ℕ} {at r : ℕ} (t : List ℕ) (i : ℕ) → Written i l at (take i t) r m → length t ≤ i → Written (length t) l at t r m
 written-all t i w h = written-within (written-as (take-all i t h) w) (omega arith)
+
+-- a row of texts, each of at most i bytes: none, and one more
+pub row-none : (f : ℕ → List ℕ) (l : List ℕ) (i at : ℕ) → Written (i * 0) l at (joined 0 f) at l
+row-none f l i at = rw (joined-none f) (record { most = omega arith; end = omega arith; bytes = refl })
+
+pub row-more : (f : ℕ → List ℕ) (i k : ℕ) {l m n : List ℕ} {at p q : ℕ} → Written (i * k) l at (joined k f) p m → Written i m p (f k) q n
+    → Written (i * (k + 1)) l at (joined (k + 1) f) q n
+row-more f i k v w =
+    let e : i * (k + 1) ≡ i * k + i = rw add-one (mul-suc i k) in
+    rw (e, joined-more k f) (then v w)
