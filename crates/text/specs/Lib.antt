@@ -4,3 +4,5 @@ pub mod Put
 pub mod Digits
 pub mod Lines
 pub mod BookText
+pub mod Parts
+pub mod Settled
