@@ -38,7 +38,7 @@ part-in {l} {t} {s} {i} {j} p q =
       front = p .front ++ q .front;
       back = q .back ++ p .back;
       whole = p .whole ∙ rw (q .whole) (simp append-assoc);
-      place = length-append (p .front) (q .front) ∙ ap₂ (λ (a b : ℕ). a + b) (p .place) (q .place)
+      place = length-append (p .front) (q .front) ∙ ap₂ (λ (a b : ℕ). a + b) (p .place) (q .place);
     }
 
 -- the same place in another form

@@ -8,16 +8,20 @@ use lib.ListN.{length, getD, take, drop, take-append-drop, length-append, length
 use lib.Seq.{getD-take, getD-drop}
 use lib.IntN.{ℤ}
 use lib.Signed.{mag}
-use Rattle.rules.specs.Fold.{joined}
-use Rattle.rules.specs.Layout.{word, lineCount, lineAt, participant, point, side, lineBytes, linesAt}
-use Rattle.rules.specs.Refusals.{bookLength}
+use lib.Dec.{eqb, ltb}
+use mathlib.Core.Bool.{cond}
+use borrow.Author.Tests.{le-ltb, eq-eqb, ne-eqb}
+use Rattle.rules.specs.Fold.{joined, refuse}
+use Rattle.rules.specs.Layout.{word, mostLines, lineCount, lineAt, participant, point, side, lineBytes, linesAt}
+use Rattle.rules.specs.Refusals.{bookLength, dayFault, settleFault}
 use Rattle.rules.specs.Steps.{stepCount}
 use Rattle.rules.specs.Totals.{linePayment, total, adjustedTotal}
-use Rattle.rules.specs.Book.{le, bits64, signedBytes, wordBytes, bookHeader, totalPair, paymentBytes, lineEntry, bookOf}
-use Rattle.rules.specs.Report.{totalText, adjustedText, numberAfter, fiveNumbers, paymentOf, lineText, settledText}
-use Rattle.laws.specs.Folds.{joined-none, joined-suc, joined-length}
+use Rattle.rules.specs.Book.{le, bits64, signedBytes, wordBytes, bookHeader, totalPair, paymentBytes, lineEntry, bookOf, bookAfter}
+use Rattle.rules.specs.Report.{totalText, adjustedText, numberAfter, fiveNumbers, paymentOf, lineText, settledText, refusedLine, reportText}
+use Rattle.laws.specs.Folds.{joined-none, joined-suc, joined-length, refuse-false, orElse-zero, orElse-suc}
+use Rattle.laws.specs.Accepted.{accepted-day}
 use Rattle.text.specs.Lines.{lineTextOf, lineKey, heading, totalsText, line-of}
-use Rattle.text.specs.BookText.{moneysAt, bookTotal, bookAdjusted, entryAt, entryText, bookText}
+use Rattle.text.specs.BookText.{moneysAt, bookTotal, bookAdjusted, entryAt, entryText, bookText, reportMost, reportOf, report-refused, report-book}
 use Rattle.text.specs.Parts.{Part, part-left, part-right, part-in, part-at, part-joined, le-length, word-back, money-back}
 
 -- what the day's book holds fits its words and signed numbers
@@ -84,7 +88,7 @@ module _ (d : List ℕ) where
         front = [];
         back = wordBytes 16 ++ (wordBytes 96 ++ (wordBytes (bookLength (lineCount d)) ++ (joined 5 (totalPair d) ++ joined (lineCount d) (lineEntry d))));
         whole = simp append-assoc;
-        place = refl
+        place = refl;
       }
 
   pair-part : (s : ℕ) → s < 5 → Part (bookOf d) (16 + s * 16) (totalPair d s)
@@ -194,3 +198,59 @@ module _ (d b : List ℕ) (fits : InRange d) (p : Part b 0 (bookOf d)) where
         five-equal (bookAdjusted b) (adjustedTotal d) adjusted-back,
       )
       (regroup (heading (lineCount d) ++ joined (lineCount d) (lineText d)) totalText (fiveNumbers (total d)) adjustedText (fiveNumbers (adjustedTotal d)))
+
+-- the same, of a book whose first bytes are the day's book
+pub book-text : (d b : List ℕ) → InRange d → take (bookLength (lineCount d)) b ≡ bookOf d → bookText b ≡ settledText d
+book-text d b fits e =
+    book-settled d b fits
+    (record {
+      front = [];
+      back = drop (bookLength (lineCount d)) b;
+      whole = sym (take-append-drop (bookLength (lineCount d)) b) ∙ ap (λ (t : List ℕ). t ++ drop (bookLength (lineCount d)) b) e;
+      place = refl;
+    })
+
+-- the length of the day's book
+pub book-length : (d : List ℕ) → length (bookOf d) ≡ bookLength (lineCount d)
+unfolding bookOf
+book-length d =
+    let e = joined-length 5 16 (totalPair d) (pair-length d) in
+    let f = joined-length (lineCount d) 56 (lineEntry d) (entry-length d) in
+    rw (length-append, length-append, header-length d, e, f) (omega arith)
+
+-- the report of settling's number and book, where the book lent has room for 64 lines: the day's report
+module _ (d b : List ℕ) (lent : ℕ) (held : bookLength mostLines ≤ length b) (room : reportMost ≤ lent) where
+  settled-number : dayFault d ≡ 0 → settleFault d (length b) ≡ 0
+  unfolding settleFault
+  settled-number e =
+      let most = accepted-day d e .header .count-most in
+      let g : refuse 15 (ltb (length b) (bookLength (lineCount d))) ≡ 0 = rw (le-ltb (length b) (bookLength (lineCount d)) (omega arith)) (refuse-false 15) in
+      rw (e, orElse-zero (refuse 15 (ltb (length b) (bookLength (lineCount d))))) g
+
+  settled-book : dayFault d ≡ 0 → bookAfter d b ≡ bookOf d ++ drop (bookLength (lineCount d)) b
+  unfolding bookAfter
+  settled-book e = rw (eq-eqb (settleFault d (length b)) 0 (settled-number e))
+
+  report-accepted : dayFault d ≡ 0 → InRange d → reportOf (settleFault d (length b)) (bookAfter d b) lent ≡ settledText d
+  report-accepted e fits =
+      let most = accepted-day d e .header .count-most in
+      let after : List ℕ = bookOf d ++ drop (bookLength (lineCount d)) b in
+      let p = part-left (bookOf d) (drop (bookLength (lineCount d)) b) in
+      let c : word after 0 ≡ lineCount d = count-back d after fits p in
+      let long : bookLength (word after 0) ≤ length after = omega (arith, c, length-append (bookOf d) (drop (bookLength (lineCount d)) b), book-length d) in
+      rw (settled-number e, settled-book e) (sym (report-book 0 after lent room refl (omega (arith, c)) long) ∙ book-settled d after fits p)
+
+  report-rejected : (m : ℕ) → dayFault d ≡ suc m → reportOf (settleFault d (length b)) (bookAfter d b) lent ≡ refusedLine (suc m)
+  unfolding settleFault
+  report-rejected m e =
+      let z : settleFault d (length b) ≡ suc m = rw e (orElse-suc m (refuse 15 (ltb (length b) (bookLength (lineCount d))))) in
+      rw z (sym (report-refused (suc m) (bookAfter d b) lent room (λ q. omega arith)))
+
+  by-fault : (m : ℕ) → dayFault d ≡ m → (dayFault d ≡ 0 → InRange d)
+      → reportOf (settleFault d (length b)) (bookAfter d b) lent ≡ cond (eqb m 0) (settledText d) (refusedLine m)
+  by-fault zero e fits = report-accepted e (fits e)
+  by-fault (suc m) e fits = rw (ne-eqb (suc m) 0 (λ q. omega arith)) (report-rejected m e)
+
+  pub report-is : (dayFault d ≡ 0 → InRange d) → reportOf (settleFault d (length b)) (bookAfter d b) lent ≡ reportText d
+  unfolding reportText
+  report-is fits = by-fault (dayFault d) refl fits
