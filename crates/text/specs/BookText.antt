@@ -1,9 +1,7 @@
 -- The report read off the bytes of a book (document 01, "Totals and book").
-use Prim.Native.Nat.{ℕ, zero, suc, _+_, _*_, _≤_, _<_}
-use native.Mathlib.Omega.{arith}
-use mathlib.Core.Path.{_≡_, refl, sym, _∙_, ap}
-use mathlib.Core.List.{List, [], _∷_, _++_}
-use mathlib.Core.Logic.{⊎-elim}
+use Prim.Native.Nat.{ℕ, _+_, _*_, _≤_, _<_}
+use mathlib.Core.Path.{_≡_, refl}
+use mathlib.Core.List.{List, [], _++_}
 use mathlib.Core.Bool.{Bool, true, false, cond, _&&_}
 use lib.ListN.{length}
 use lib.Dec.{eqb, ltb, leb}
@@ -15,7 +13,6 @@ use Rattle.rules.specs.Refusals.{bookLength}
 use Rattle.rules.specs.Report.{refusedLine}
 use Rattle.bytes_le.specs.Wide.{longWord, signedOf}
 use Rattle.text.specs.Lines.{lineTextOf, heading, totalsText, five-of}
-use Rattle.text.specs.Put.{Written, then, written-as, written-within, written-none}
 
 -- the signed number whose first byte is byte i
 abbrev pub moneyAt : List ℕ → ℕ → ℤ

@@ -1,11 +1,8 @@
 -- The report's lines (`rules`, Report) over plain values.
-use Prim.Native.Nat.{ℕ, zero, suc, _+_, _-_, _^_, _≤_, _<_}
+use Prim.Native.Nat.{ℕ, suc, _+_, _-_, _^_, _≤_, _<_}
 use native.Mathlib.Omega.{arith}
-use mathlib.Core.Path.{_≡_, refl, sym, _∙_, ap}
+use mathlib.Core.Path.{_≡_, refl, _∙_, ap}
 use mathlib.Core.List.{List, [], _∷_, _++_, append-assoc}
-use mathlib.Core.Bool.{true, false, cond}
-use lib.ListN.{length}
-use lib.Dec.{eqb}
 use lib.IntN.{ℤ, pos, negsuc}
 use borrow.Author.Tests.{eq-eqb, ne-eqb}
 use mir.Syntax.{w64}
@@ -14,7 +11,7 @@ use Rattle.rules.specs.Fold.{joined, five, atZ}
 use Rattle.rules.specs.Layout.{lineAt, participant, point, side}
 use Rattle.rules.specs.Steps.{stepCount}
 use Rattle.rules.specs.Book.{bits64}
-use Rattle.rules.specs.Report.{decimal, signedDecimal, dayText, injectionText, withdrawalText, totalText, adjustedText, refusedText, space, lineFeed, sideText}
+use Rattle.rules.specs.Report.{decimal, signedDecimal, dayText, injectionText, withdrawalText, totalText, adjustedText, space, lineFeed, sideText}
 use Rattle.rules.specs.Report.{numberAfter, fiveNumbers, paymentOf, lineText}
 
 -- five numbers, each after a space

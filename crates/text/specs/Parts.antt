@@ -1,11 +1,9 @@
 -- A list that stands in another at a place, and numbers read back from their little-endian bytes there.
 use Prim.Native.Nat.{ℕ, zero, suc, _+_, _*_, _-_, _/_, _%_, _^_, _≤_, _<_}
-use native.Mathlib.Nat.{suc-mul}
 use native.Mathlib.Omega.{arith}
 use native.Mathlib.Decide.{decLt}
 use mathlib.Core.Path.{_≡_, refl, sym, _∙_, ap, ap₂}
-use mathlib.Core.List.{List, [], _∷_, _++_, append-assoc, append-nil}
-use mathlib.Core.Bool.{cond}
+use mathlib.Core.List.{List, [], _++_, append-assoc, append-nil}
 use lib.ListN.{length, getD, length-append}
 use lib.Seq.{getD-append-add}
 use lib.IntN.{ℤ, pos, negsuc}
@@ -14,7 +12,7 @@ use borrow.Author.Tests.{lt-ltb, le-ltb}
 use Rattle.rules.specs.Fold.{joined}
 use Rattle.rules.specs.Layout.{word}
 use Rattle.rules.specs.Book.{le, bits64, signedBytes}
-use Rattle.laws.specs.Folds.{joined-none, joined-suc, joined-length}
+use Rattle.laws.specs.Folds.{joined-suc, joined-length}
 use Rattle.bytes_le.specs.Wide.{longWord, signedOf}
 use Rattle.text.specs.BookText.{moneyAt}
 

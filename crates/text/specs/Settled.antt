@@ -3,7 +3,7 @@ use Prim.Native.Nat.{ℕ, zero, suc, _+_, _*_, _^_, _≤_, _<_}
 use native.Mathlib.Omega.{arith}
 use native.Mathlib.Decide.{decLt}
 use mathlib.Core.Path.{_≡_, refl, sym, _∙_, ap}
-use mathlib.Core.List.{List, [], _∷_, _++_, append-assoc}
+use mathlib.Core.List.{List, [], _++_, append-assoc}
 use lib.ListN.{length, getD, take, drop, take-append-drop, length-append, length-take, List·getD-eq-default}
 use lib.Seq.{getD-take, getD-drop}
 use lib.IntN.{ℤ}
@@ -20,7 +20,7 @@ use Rattle.rules.specs.Book.{le, bits64, signedBytes, wordBytes, bookHeader, to
 use Rattle.rules.specs.Report.{totalText, adjustedText, numberAfter, fiveNumbers, paymentOf, lineText, settledText, refusedLine, reportText}
 use Rattle.laws.specs.Folds.{joined-none, joined-suc, joined-length, refuse-false, orElse-zero, orElse-suc}
 use Rattle.laws.specs.Accepted.{accepted-day}
-use Rattle.text.specs.Lines.{lineTextOf, lineKey, heading, totalsText, line-of}
+use Rattle.text.specs.Lines.{lineTextOf, heading, totalsText, line-of}
 use Rattle.text.specs.BookText.{moneysAt, bookTotal, bookAdjusted, entryAt, entryText, bookText, reportMost, reportOf, report-refused, report-book}
 use Rattle.text.specs.Parts.{Part, part-left, part-right, part-in, part-at, part-joined, le-length, word-back, money-back}
 
