@@ -1,6 +1,6 @@
 -- Numbers read out of a list of bytes at a place, and that what was written there is what is read.
 use Prim.Native.Nat.{ℕ, zero, suc, _+_, _*_, _-_, _/_, _%_, _^_, _≤_, _<_}
-use native.Mathlib.Nat.{zero-add, add-zero, add-assoc, pow-suc, mod-add-div, div-lt-iff-lt-mul}
+use native.Mathlib.Nat.{zero-add, add-zero, add-assoc, pow-suc, div-lt-iff-lt-mul}
 use native.Mathlib.Numerals.{add-one, add-two, add-three}
 use native.Mathlib.Decide.{decLt}
 use native.Mathlib.Omega.{arith}
@@ -85,7 +85,7 @@ number-stands {b} {i} (suc k) v s h =
     let low : getD b i 0 ≡ v % 256 = rw (add-zero i) at (s .each 0 (omega arith)) in
     let more = stands-after (v % 256 ∷ []) (le k (v / 256)) 1 (suc i) s refl (omega arith) in
     let r = number-stands k (v / 256) more (div-lt-iff-lt-mul {k = 256} {x = v} {y = 256 ^ k} (omega arith) .1 (rw (← pow-suc 256 k) h)) in
-    rw (low, r) (mod-add-div v 256)
+    rw (low, r) (omega arith)
 
 -- a word that fits is read back
 pub word-stands : {b : List ℕ} {i : ℕ} (v : ℕ) → Stands b i (le 4 v) → v < 2 ^ 32 → word b i ≡ v
