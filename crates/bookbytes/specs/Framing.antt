@@ -10,7 +10,7 @@ use Rattle.rules.specs.Layout.{word, lineCount, lineAt, participant, point, sid
 use Rattle.rules.specs.Steps.{stepCount}
 use Rattle.rules.specs.Refusals.{bookLength, settleFault}
 use Rattle.rules.specs.Totals.{linePayment, total, adjustedTotal}
-use Rattle.rules.specs.Book.{le, bits64, wordBytes, signedBytes, bookHeader, totalPair, paymentBytes, lineEntry, bookOf, bookAfter}
+use Rattle.rules.specs.Book.{bits64, wordBytes, signedBytes, bookHeader, totalPair, paymentBytes, lineEntry, bookOf, bookAfter}
 use Rattle.laws.specs.Folds.{joined-length}
 use Rattle.bookbytes.specs.Reading.{Stands, signedAt, stands-own, stands-first, stands-after, stands-joined, le-length, word-stands, signed-stands}
 

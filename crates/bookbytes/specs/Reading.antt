@@ -1,10 +1,10 @@
 -- Numbers read out of a list of bytes at a place, and that what was written there is what is read.
-use Prim.Native.Nat.{ℕ, zero, suc, _+_, _*_, _-_, _/_, _%_, _^_, _≤_, _<_}
+use Prim.Native.Nat.{ℕ, zero, suc, _+_, _*_, _-_, _/_, _%_, _^_, _<_}
 use native.Mathlib.Nat.{zero-add, add-zero, add-assoc, pow-suc, div-lt-iff-lt-mul}
 use native.Mathlib.Numerals.{add-one, add-two, add-three}
 use native.Mathlib.Decide.{decLt}
 use native.Mathlib.Omega.{arith}
-use mathlib.Core.Path.{_≡_, refl, sym, _∙_, ap}
+use mathlib.Core.Path.{_≡_, refl, _∙_, ap}
 use mathlib.Core.List.{List, [], _∷_, _++_}
 use mathlib.Core.Bool.{cond}
 use lib.ListN.{length, getD, length-append, List·getD-append}
@@ -16,7 +16,7 @@ use borrow.Author.Tests.{lt-ltb, le-ltb}
 use Rattle.rules.specs.Fold.{joined}
 use Rattle.rules.specs.Layout.{word}
 use Rattle.rules.specs.Book.{le, bits64}
-use Rattle.laws.specs.Folds.{joined-none, joined-suc, joined-length}
+use Rattle.laws.specs.Folds.{joined-suc, joined-length}
 
 -- "All are little-endian" (document 01, "Totals and book"): the number in the k bytes of b from byte i on
 unfoldable pub numberAt : ℕ → List ℕ → ℕ → ℕ
