@@ -1,17 +1,15 @@
 -- Laws of the folds of `rules`: for each, none (`-none`), one more (`-more`), and what the whole says of a part.
-use Prim.Native.Nat.{ℕ, zero, suc, _+_, _*_, _-_, _≤_, _<_, min, max}
-use native.Mathlib.Nat.{zero-add, add-zero}
+use Prim.Native.Nat.{ℕ, zero, suc, _+_, _*_, _≤_, _<_, max}
 use native.Mathlib.Numerals.{add-one}
 use native.Mathlib.Omega.{arith}
 use native.Mathlib.Decide.{decLt}
-use mathlib.Core.Path.{_≡_, refl, sym, _∙_, ap, subst}
-use mathlib.Core.Logic.{_≢_, _⊎_, inl, inr, ⊎-elim}
+use mathlib.Core.Path.{_≡_, refl, sym, _∙_, ap}
 use mathlib.Core.List.{List, [], _∷_, _++_}
 use mathlib.Core.Bool.{Bool, true, false, _||_}
 use lib.ListN.{length, getD, length-append, List·getD-append}
 use lib.Seq.{getD-append-seam}
 use lib.IntN.{ℤ, pos, _+ℤ_}
-use Rattle.rules.specs.Fold.{refuse, _orElse_, first, sumTo, sumZ, mostTo, someTo, joined, listTo, five, at}
+use Rattle.rules.specs.Fold.{refuse, _orElse_, first, sumTo, sumZ, mostTo, someTo, joined, listTo, at}
 
 -- refuse and orElse
 pub refuse-false : (n : ℕ) → refuse n false ≡ 0

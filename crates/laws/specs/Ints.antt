@@ -1,19 +1,16 @@
 -- Laws that let `omega` read ℤ: a signed number is what it has above 0 (`pl`) and below 0 (`mi`), of which one is 0.
 -- A goal in ℤ is proved by `eqZ`, `le-read` or the like, with the reads of its parts in `omega`'s list.
-use Prim.Native.Nat.{ℕ, zero, suc, _+_, _*_, _-_, _/_, _≤_, _<_, min, max}
-use native.Mathlib.Nat.{zero-mul, mul-zero, suc-mul, mul-suc}
+use Prim.Native.Nat.{ℕ, zero, suc, _+_, _*_, _-_, _≤_, _<_, min, max}
+use native.Mathlib.Nat.{zero-mul}
 use native.Mathlib.Omega.{arith}
 use mathlib.Core.Path.{_≡_, refl, sym, _∙_, ap}
-use mathlib.Core.Logic.{⊎-elim}
 use mathlib.Core.Bool.{Bool, true, false, cond}
 use lib.IntN.{ℤ, pos, negsuc, negℤ, subℕ, _+ℤ_, _-ℤ_, _*ℤ_}
 use lib.Signed.{ltZ, leZ, nonNeg}
-use lib.Dec.{ltb, leb}
+use lib.Dec.{ltb}
 use borrow.Author.Tests.{ltb-true, ltb-false, leb-true, leb-false, lt-ltb, le-ltb, le-leb, lt-leb}
-use Rattle.rules.specs.Fold.{sumZ}
 use Rattle.rules.specs.Payments.{maxZ}
 use Rattle.rules.specs.Totals.{minZ}
-use Rattle.laws.specs.Folds.{sumZ-none, sumZ-suc}
 
 abbrev pub pl : ℤ → ℕ
 pl (pos n) = n

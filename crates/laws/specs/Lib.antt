@@ -1,3 +1,4 @@
 -- Laws on the definitions of `rules`, which the proofs of the code cite.
 pub mod Folds
 pub mod Ints
+pub mod Accepted

@@ -1,0 +1,2 @@
+-- What 64 bits in a list of bytes stand for.
+pub mod Wide

@@ -1,0 +1,201 @@
+-- What the number 0 says of a line and of a day: each test of document 01's table, row by row, found no fault.
+use Prim.Native.Nat.{ℕ, suc, _+_, _-_, _≤_, _<_}
+use native.Mathlib.Omega.{arith}
+use mathlib.Core.Path.{_≡_, sym}
+use mathlib.Core.List.{List}
+use mathlib.Core.Bool.{Bool, true, false, not, _&&_, true≢false}
+use lib.ListN.{length}
+use lib.Dec.{eqb, ltb, leb}
+use borrow.Author.Tests.{ltb-false, leb-false, eqb-true, eqb-false, not-false}
+use Rattle.rules.specs.Fold.{refuse, first, before}
+use Rattle.rules.specs.Layout.{quantityMost, priceMost, lineCount, fileLength}
+use Rattle.rules.specs.Layout.{marketPrice, capMark, priceCap, clawback, lineAt, side, accreditation, hedge, withdrawal}
+use Rattle.rules.specs.Layout.{bidCount, bidBreak, bidPrice, actualEntry}
+use Rattle.rules.specs.Steps.{greatestBreak}
+use Rattle.rules.specs.Quantities.{pricingTotal, operatingTotal}
+use Rattle.rules.specs.Refusals.{headerFault, marketPriceFault, markFault, marketFault, breakFault, outOfOrder, orderFault, priceFault, unusedFault, bidFault}
+use Rattle.rules.specs.Refusals.{totalFault, actualFault, lineFault, lineFaultAt, sameKey, pairFault, keyFault, dayFault}
+use Rattle.laws.specs.Folds.{refuse-zero, orElse-both, first-at, Both}
+
+-- a test that was not met
+at-most : (n a b : ℕ) → refuse (suc n) (ltb a b) ≡ 0 → b ≤ a
+at-most n a b e = ltb-false a b (refuse-zero n (ltb a b) e)
+
+equal : (n a b : ℕ) → refuse (suc n) (not (eqb a b)) ≡ 0 → a ≡ b
+equal n a b e = eqb-true a b (not-false (eqb a b) (refuse-zero n (not (eqb a b)) e))
+
+-- the bid of one schedule: rows 7 to 10
+pub record AcceptedBid (w : List ℕ) (s : ℕ) : Type 0 where
+  pub count-least : 1 ≤ bidCount w s
+  pub count-most : bidCount w s ≤ 11
+  pub rises : (j : ℕ) → j < bidCount w s → before (bidBreak w s) j < bidBreak w s j
+  pub break-most : (j : ℕ) → j < bidCount w s → bidBreak w s j ≤ 200000000
+  pub price-most : (j : ℕ) → j < bidCount w s → bidPrice w s j ≤ 10000000
+  pub ordered : (j : ℕ) → suc j < bidCount w s → outOfOrder (side w) (bidPrice w s j) (bidPrice w s (suc j)) ≡ false
+  pub unused-break : (i : ℕ) → i < 11 - bidCount w s → bidBreak w s (bidCount w s + i) ≡ 0
+  pub unused-price : (i : ℕ) → i < 11 - bidCount w s → bidPrice w s (bidCount w s + i) ≡ 0
+
+break-both : (w : List ℕ) (s n : ℕ) → first (breakFault w s) n ≡ 0 → (j : ℕ) → j < n → Both (refuse 8 (leb (bidBreak w s j) (before (bidBreak w s) j))) (refuse 8 (ltb quantityMost (bidBreak w s j)))
+unfolding breakFault
+break-both w s n e j h = orElse-both _ _ (first-at _ n e j h)
+
+price-both : (w : List ℕ) (s n : ℕ) → first (priceFault w s) n ≡ 0 → (j : ℕ) → j < n → Both (refuse 9 (ltb priceMost (bidPrice w s j))) (orderFault w s j)
+unfolding priceFault
+price-both w s n e j h = orElse-both _ _ (first-at _ n e j h)
+
+order-is : (w : List ℕ) (s j : ℕ) → orderFault w s (suc j) ≡ 0 → outOfOrder (side w) (bidPrice w s j) (bidPrice w s (suc j)) ≡ false
+unfolding orderFault
+order-is w s j e = refuse-zero 8 _ e
+
+unused-both : (w : List ℕ) (s n : ℕ) → first (unusedFault w s) n ≡ 0 → (i : ℕ) → i < n → Both (refuse 10 (not (eqb (bidBreak w s (bidCount w s + i)) 0))) (refuse 10 (not (eqb (bidPrice w s (bidCount w s + i)) 0)))
+unfolding unusedFault
+unused-both w s n e i h = orElse-both _ _ (first-at _ n e i h)
+
+pub accepted-bid : (w : List ℕ) (s : ℕ) → bidFault w s ≡ 0 → AcceptedBid w s
+unfolding bidFault
+accepted-bid w s e =
+    let b1 = orElse-both _ _ e in
+    let b2 = orElse-both _ _ (b1 .right) in
+    let b3 = orElse-both _ _ (b2 .right) in
+    let b4 = orElse-both _ _ (b3 .right) in
+    let none = eqb-false (bidCount w s) 0 (refuse-zero 6 _ (b1 .left)) in
+    let brk = break-both w s (bidCount w s) (b3 .left) in
+    let prc = price-both w s (bidCount w s) (b4 .left) in
+    let uns = unused-both w s (11 - bidCount w s) (b4 .right) in
+    record {
+      count-least = omega arith;
+      count-most = at-most 6 11 (bidCount w s) (b2 .left);
+      rises = λ j h. leb-false _ _ (refuse-zero 7 _ (brk j h .left));
+      break-most = λ j h. at-most 7 200000000 _ (brk j h .right);
+      price-most = λ j h. at-most 8 10000000 _ (prc j h .left);
+      ordered = λ j h. order-is w s j (prc (suc j) h .right);
+      unused-break = λ i h. equal 9 _ 0 (uns i h .left);
+      unused-price = λ i h. equal 9 _ 0 (uns i h .right);
+    }
+
+-- one line: rows 6 to 13
+pub record AcceptedLine (w : List ℕ) : Type 0 where
+  pub side-most : side w ≤ 1
+  pub accreditation-most : accreditation w ≤ 1
+  pub bids : (s : ℕ) → s < 5 → AcceptedBid w s
+  pub hedge-most : hedge w ≤ greatestBreak w
+  pub hedge-withdrawal : withdrawal (side w) ≡ true → hedge w ≡ 0
+  pub pricing-most : (s : ℕ) → s < 5 → pricingTotal w s ≤ greatestBreak w
+  pub operating-most : (s : ℕ) → s < 5 → operatingTotal w s ≤ greatestBreak w
+  pub actual-most : (i : ℕ) → i < 5 → actualEntry w i ≤ 200000000
+
+total-both : (w : List ℕ) (s : ℕ) → totalFault w s ≡ 0 → Both (refuse 12 (ltb (greatestBreak w) (pricingTotal w s))) (refuse 12 (ltb (greatestBreak w) (operatingTotal w s)))
+unfolding totalFault
+total-both w s e = orElse-both _ _ e
+
+actual-is : (w : List ℕ) (i : ℕ) → actualFault w i ≡ 0 → actualEntry w i ≤ 200000000
+unfolding actualFault
+actual-is w i e = at-most 12 200000000 _ e
+
+and-false : (a b : Bool) → (a && b) ≡ false → a ≡ true → b ≡ false
+and-false true b e h = e
+and-false false b e h = absurd (true≢false (sym h))
+
+pub accepted-line : (w : List ℕ) → lineFault w ≡ 0 → AcceptedLine w
+unfolding lineFault
+accepted-line w e =
+    let b1 = orElse-both _ _ e in
+    let b2 = orElse-both _ _ (b1 .right) in
+    let b3 = orElse-both _ _ (b2 .right) in
+    let b4 = orElse-both _ _ (b3 .right) in
+    let b5 = orElse-both _ _ (b4 .right) in
+    let b6 = orElse-both _ _ (b5 .right) in
+    record {
+      side-most = at-most 5 1 (side w) (b1 .left);
+      accreditation-most = at-most 5 1 (accreditation w) (b2 .left);
+      bids = λ s h. accepted-bid w s (first-at _ 5 (b3 .left) s h);
+      hedge-most = at-most 10 (greatestBreak w) (hedge w) (b4 .left);
+      hedge-withdrawal =
+          λ h. eqb-true (hedge w) 0 (not-false (eqb (hedge w) 0) (and-false _ _ (refuse-zero 10 _ (b5 .left)) h));
+      pricing-most = λ s h. at-most 11 _ _ (total-both w s (first-at _ 5 (b6 .left) s h) .left);
+      operating-most = λ s h. at-most 11 _ _ (total-both w s (first-at _ 5 (b6 .left) s h) .right);
+      actual-most = λ i h. actual-is w i (first-at _ 5 (b6 .right) i h);
+    }
+
+-- the header: rows 1 to 3
+pub record AcceptedHeader (d : List ℕ) : Type 0 where
+  pub length-least : 64 ≤ length d
+  pub count-least : 1 ≤ lineCount d
+  pub count-most : lineCount d ≤ 64
+  pub length-is : length d ≡ fileLength (lineCount d)
+
+pub accepted-header : (d : List ℕ) → headerFault d ≡ 0 → AcceptedHeader d
+unfolding headerFault
+accepted-header d e =
+    let b1 = orElse-both _ _ e in
+    let b2 = orElse-both _ _ (b1 .right) in
+    let b3 = orElse-both _ _ (b2 .right) in
+    let b4 = orElse-both _ _ (b3 .right) in
+    let b5 = orElse-both _ _ (b4 .right) in
+    let b6 = orElse-both _ _ (b5 .right) in
+    let none = eqb-false (lineCount d) 0 (refuse-zero 1 _ (b2 .left)) in
+    record {
+      length-least = ltb-false (length d) 64 (refuse-zero 0 _ (b1 .left));
+      count-least = omega arith;
+      count-most = at-most 1 64 (lineCount d) (b3 .left);
+      length-is = equal 2 (length d) _ (b6 .right);
+    }
+
+-- the market table: rows 4 and 5
+pub record AcceptedMarket (d : List ℕ) : Type 0 where
+  pub price-most : (s : ℕ) → s < 5 → marketPrice d s ≤ 10000000
+  pub cap-most : priceCap d ≤ 10000000
+  pub mark-most : (s : ℕ) → s < 5 → capMark d s ≤ 1
+  pub clawback-most : clawback d ≤ 1
+
+price-is : (d : List ℕ) (s : ℕ) → marketPriceFault d s ≡ 0 → marketPrice d s ≤ 10000000
+unfolding marketPriceFault
+price-is d s e = at-most 3 10000000 _ e
+
+mark-is : (d : List ℕ) (s : ℕ) → markFault d s ≡ 0 → capMark d s ≤ 1
+unfolding markFault
+mark-is d s e = at-most 4 1 _ e
+
+pub accepted-market : (d : List ℕ) → marketFault d ≡ 0 → AcceptedMarket d
+unfolding marketFault
+accepted-market d e =
+    let b1 = orElse-both _ _ e in
+    let b2 = orElse-both _ _ (b1 .right) in
+    let b3 = orElse-both _ _ (b2 .right) in
+    record {
+      price-most = λ s h. price-is d s (first-at _ 5 (b1 .left) s h);
+      cap-most = at-most 3 10000000 _ (b2 .left);
+      mark-most = λ s h. mark-is d s (first-at _ 5 (b3 .left) s h);
+      clawback-most = at-most 4 1 _ (b3 .right);
+    }
+
+-- a day: rows 1 to 14
+pub record AcceptedDay (d : List ℕ) : Type 0 where
+  pub header : AcceptedHeader d
+  pub market : AcceptedMarket d
+  pub line-fault : (k : ℕ) → k < lineCount d → lineFault (lineAt d k) ≡ 0
+  pub keys : (k i : ℕ) → k < lineCount d → i < k → sameKey (lineAt d i) (lineAt d k) ≡ false
+
+line-is : (d : List ℕ) (k : ℕ) → lineFaultAt d k ≡ 0 → lineFault (lineAt d k) ≡ 0
+unfolding lineFaultAt
+line-is d k e = e
+
+key-is : (d : List ℕ) (k i : ℕ) → i < k → keyFault d k ≡ 0 → sameKey (lineAt d i) (lineAt d k) ≡ false
+unfolding keyFault pairFault
+key-is d k i h e = refuse-zero 13 _ (first-at _ k e i h)
+
+pub accepted-day : (d : List ℕ) → dayFault d ≡ 0 → AcceptedDay d
+unfolding dayFault
+accepted-day d e =
+    let b1 = orElse-both _ _ e in
+    let b2 = orElse-both _ _ (b1 .right) in
+    let b3 = orElse-both _ _ (b2 .right) in
+    record {
+      header = accepted-header d (b1 .left);
+      market = accepted-market d (b2 .left);
+      line-fault = λ k h. line-is d k (first-at _ (lineCount d) (b3 .left) k h);
+      keys = λ k i h l. key-is d k i l (first-at _ (lineCount d) (b3 .right) k h);
+    }
+
+pub accepted-line-at : (d : List ℕ) → AcceptedDay d → (k : ℕ) → k < lineCount d → AcceptedLine (lineAt d k)
+accepted-line-at d a k h = accepted-line (lineAt d k) (a .line-fault k h)
