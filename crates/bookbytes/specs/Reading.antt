@@ -1,35 +1,24 @@
 -- Numbers read out of a list of bytes at a place, and that what was written there is what is read.
-use Prim.Native.Nat.{ℕ, zero, suc, _+_, _*_, _-_, _/_, _%_, _^_, _<_}
-use native.Mathlib.Nat.{zero-add, add-zero, add-assoc, pow-suc, div-lt-iff-lt-mul}
-use native.Mathlib.Numerals.{add-one, add-two, add-three}
+use Prim.Native.Nat.{ℕ, zero, suc, _+_, _*_, _-_, _/_, _^_, _<_}
+use native.Mathlib.Nat.{zero-add, add-zero, add-assoc}
 use native.Mathlib.Decide.{decLt}
 use native.Mathlib.Omega.{arith}
 use mathlib.Core.Path.{_≡_, refl, _∙_, ap}
-use mathlib.Core.List.{List, [], _∷_, _++_}
-use mathlib.Core.Bool.{cond}
+use mathlib.Core.List.{List, _++_}
 use lib.ListN.{length, getD, length-append, List·getD-append}
 use lib.Seq.{getD-append-add}
-use lib.Dec.{ltb}
 use lib.IntN.{ℤ, pos, negsuc}
 use lib.Signed.{mag}
 use borrow.Author.Tests.{lt-ltb, le-ltb}
 use Rattle.rules.specs.Fold.{joined}
 use Rattle.rules.specs.Layout.{word}
 use Rattle.rules.specs.Book.{le, bits64}
+use Rattle.bytes_le.specs.Wide.{longWord, signedOf}
 use Rattle.laws.specs.Folds.{joined-suc, joined-length}
 
--- "All are little-endian" (document 01, "Totals and book"): the number in the k bytes of b from byte i on
-unfoldable pub numberAt : ℕ → List ℕ → ℕ → ℕ
-numberAt zero b i = 0
-numberAt (suc k) b i = getD b i 0 + 256 * numberAt k b (suc i)
-
--- the signed number of 64 bits: those from 2^63 on are 2^64 more than their value
-abbrev pub signedOf : ℕ → ℤ
-signedOf v = cond (ltb v (2 ^ 63)) (pos v) (negsuc (2 ^ 64 - suc v))
-
 -- the signed 64-bit number in the eight bytes of b from byte i on
-unfoldable pub signedAt : List ℕ → ℕ → ℤ
-signedAt b i = signedOf (numberAt 8 b i)
+abbrev pub signedAt : List ℕ → ℕ → ℤ
+signedAt b i = signedOf (longWord b i)
 
 -- the bytes q stand in b from byte i on
 pub record Stands (b : List ℕ) (i : ℕ) (q : List ℕ) : Type 0 where
@@ -77,22 +66,28 @@ unfolding le
 le-length zero v = refl
 le-length (suc k) v = ap suc (le-length k (v / 256))
 
--- a number that fits its bytes is read back from them
-pub number-stands : {b : List ℕ} {i : ℕ} (k v : ℕ) → Stands b i (le k v) → v < 256 ^ k → numberAt k b i ≡ v
-unfolding le numberAt
-number-stands zero v s h = omega arith
-number-stands {b} {i} (suc k) v s h =
-    let low : getD b i 0 ≡ v % 256 = rw (add-zero i) at (s .each 0 (omega arith)) in
-    let more = stands-after (v % 256 ∷ []) (le k (v / 256)) 1 (suc i) s refl (omega arith) in
-    let r = number-stands k (v / 256) more (div-lt-iff-lt-mul {k = 256} {x = v} {y = 256 ^ k} (omega arith) .1 (rw (← pow-suc 256 k) h)) in
-    rw (low, r) (omega arith)
+-- the four lowest bytes of a number, read as a word
+word-low : {b : List ℕ} {i : ℕ} (v : ℕ) → Stands b i (le 4 v) → word b i + v / 256 / 256 / 256 / 256 * 4294967296 ≡ v
+unfolding le
+word-low {b} {i} v s =
+    let b₀ = rw (add-zero i) at (s .each 0 (omega arith)) in
+    let b₁ = s .each 1 (omega arith) in
+    let b₂ = s .each 2 (omega arith) in
+    let b₃ = s .each 3 (omega arith) in
+    rw (b₀, b₁, b₂, b₃) (omega arith)
 
 -- a word that fits is read back
 pub word-stands : {b : List ℕ} {i : ℕ} (v : ℕ) → Stands b i (le 4 v) → v < 2 ^ 32 → word b i ≡ v
-unfolding numberAt
-word-stands {b} {i} v s h =
-    let r = number-stands 4 v s h in
-    rw (add-one, add-two, add-three) (omega arith)
+word-stands v s h = omega (arith, word-low v s)
+
+-- and so is a number of eight bytes, from its two words
+pub long-stands : {b : List ℕ} {i : ℕ} (v : ℕ) → Stands b i (le 8 v) → v < 2 ^ 64 → longWord b i ≡ v
+unfolding le
+long-stands {b} {i} v s h =
+    let u = v / 256 / 256 / 256 / 256 in
+    let low = word-low v (stands-first (le 4 v) (le 4 u) s) in
+    let high = word-low u (stands-after (le 4 v) (le 4 u) 4 (i + 4) s (le-length 4 v) refl) in
+    omega arith
 
 -- a signed 64-bit number is read back
 signed-bits : (z : ℤ) → mag z < 2 ^ 63 → signedOf (bits64 z) ≡ z
@@ -104,8 +99,7 @@ bits-fit (pos n) h = omega arith
 bits-fit (negsuc n) h = omega arith
 
 pub signed-stands : {b : List ℕ} {i : ℕ} (z : ℤ) → Stands b i (le 8 (bits64 z)) → mag z < 2 ^ 63 → signedAt b i ≡ z
-unfolding signedAt
-signed-stands z s h = ap signedOf (number-stands 8 (bits64 z) s (bits-fit z h)) ∙ signed-bits z h
+signed-stands z s h = ap signedOf (long-stands (bits64 z) s (bits-fit z h)) ∙ signed-bits z h
 
 -- the eight bytes of a number with others behind them
 pub signed-read : (z : ℤ) (rest : List ℕ) → mag z < 2 ^ 63 → signedAt (le 8 (bits64 z) ++ rest) 0 ≡ z
