@@ -1,3 +1,6 @@
--- The certificate: demand 3 as one statement, and the laws of money behind it.
+-- The certificate: demand 3 as one statement (Certificate), its proof, and the laws of money behind it.
+pub mod Certificate
 pub mod Sums
 pub mod Money
+pub mod Answers
+pub mod Proof

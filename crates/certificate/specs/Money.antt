@@ -43,7 +43,7 @@ unfolding total linePayments
 totals-sum d = sumZ-swap 5 (lineCount d) (linePayment d)
 
 -- and so do the five adjusted totals
-at-five : (f : ℕ → ℤ) (s : ℕ) → s < 5 → atZ (five f) s ≡ f s
+pub at-five : (f : ℕ → ℤ) (s : ℕ) → s < 5 → atZ (five f) s ≡ f s
 at-five f zero l = refl
 at-five f (suc zero) l = refl
 at-five f (suc (suc zero)) l = refl
