@@ -1,5 +1,5 @@
 -- The certificate's proof: each clause from the law of its definition.
-use Prim.Native.Nat.{ℕ, zero, suc, _+_, _≤_, _<_}
+use Prim.Native.Nat.{ℕ, zero, suc, _+_, _*_, _≤_, _<_}
 use native.Mathlib.Omega.{arith}
 use mathlib.Core.Path.{_≡_, refl, sym, _∙_, ap}
 use mathlib.Core.List.{List, _++_}
@@ -8,8 +8,8 @@ use lib.ListN.{length, drop}
 use lib.IntN.{pos}
 use lib.Signed.{ltZ}
 use Rattle.rules.specs.Fold.{sumTo, sumZ, at, five}
-use Rattle.rules.specs.Layout.{word, lineCount, lineAt}
-use Rattle.rules.specs.Steps.{greatestBreak, stepCount, upperEnd, lowerEnd, width}
+use Rattle.rules.specs.Layout.{word, lineCount, lineAt, quantityMost, priceMost}
+use Rattle.rules.specs.Steps.{greatestBreak, stepCount, width}
 use Rattle.rules.specs.Quantities.{pricingTotal, operatingTotal}
 use Rattle.rules.specs.Matching.{rise, fall, matched}
 use Rattle.rules.specs.Payments.{operatingOn, pricingOn, aginoOn, msiqOn, onStep, stepOf}
@@ -20,39 +20,19 @@ use Rattle.rules.specs.Totals.{linePayment, total, totals, adjustedTotal}
 use Rattle.rules.specs.Book.{bookOf, bookAfter}
 use Rattle.rules.specs.declared.View.{View}
 use Rattle.rules.specs.declared.Cut.{Cut}
-use Rattle.rules.specs.declared.Step.{Step}
-use Rattle.laws.specs.Accepted.{AcceptedLine, accepted-day, accepted-line-at}
+use Rattle.laws.specs.Accepted.{accepted-day, accepted-line-at}
 use Rattle.laws.specs.Folds.{sum-same}
 use Rattle.laws.specs.Ints.{ltZ-yes, le-ltZ}
-use Rattle.totals.specs.Sizes.{size, Bounded, mag-size, adjusted-size}
+use Rattle.totals.specs.Sizes.{Bounded, mag-size, adjusted-size}
 use Rattle.bookbytes.specs.Reading.{signedAt}
 use Rattle.bookbytes.specs.Framing.{paymentAt, book-words, book-adjusted, book-payment, after-settling}
 use Rattle.certificate.specs.Certificate.{Certified, endAt, widthAt, matchIn, matchesMade, matchesWith, adjustedIn, paymentsIn}
+use Rattle.certificate.specs.Layers.{Layers}
+use Rattle.certificate.specs.Ends.{widths-sum}
+use Rattle.certificate.specs.Paid.{payment-size}
 use Rattle.certificate.specs.Sums.{sumZ-same, sumZ-size}
 use Rattle.certificate.specs.Money.{linePayments, at-five, adjusted-payments, adjusted-order}
 use Rattle.certificate.specs.Answers.{lineCut, view-whole, cut-whole, settle-taken, end-at, width-at, match-at}
-
--- the most that a line is paid, or gives back, in a schedule: the limits of quantity and price multiplied
-abbrev pub paymentMost : ℕ
-paymentMost = 2000000000000000
-
--- what the layers below the certificate show of the definitions
-pub record Layers : Type 0 where
-  -- the cutter: the ends rise, and the last is M
-  pub rising : (w : List ℕ) → AcceptedLine w → (j : ℕ) → j < stepCount w → lowerEnd w j ≤ upperEnd w j
-  pub last : (w : List ℕ) → AcceptedLine w → lowerEnd w (stepCount w) ≡ greatestBreak w
-  -- the quantities
-  pub widths : (w : List ℕ) → AcceptedLine w → sumTo (stepCount w) (width w) ≡ greatestBreak w
-  pub pricing : (d : List ℕ) (k s : ℕ) → AcceptedLine (lineAt d k) → s < 5 → sumTo (stepCount (lineAt d k)) (λ j. pricingOn (stepOf d k j) s) ≡ pricingTotal (lineAt d k) s
-  pub operating : (d : List ℕ) (k s : ℕ) → AcceptedLine (lineAt d k) → s < 5 → sumTo (stepCount (lineAt d k)) (λ j. operatingOn (stepOf d k j) s) ≡ operatingTotal (lineAt d k) s
-  pub agino-most : (x : Step) (s : ℕ) → s < 5 → aginoOn x s ≤ operatingOn x s
-  pub msiq-most : (x : Step) (s : ℕ) → s < 5 → msiqOn x s ≤ pricingOn x s
-  -- the matches
-  pub falls : (c : List ℕ) (s : ℕ) → sumTo s (matched c s) ≡ fall c s
-  pub rises : (c : List ℕ) (n r : ℕ) → sumTo n (λ s. matched c s r) ≤ rise c r
-  pub balance : (c : List ℕ) (s : ℕ) → sumTo (suc s) (rise c) ≡ at c s + sumTo (suc s) (λ i. sumTo i (matched c i))
-  -- the payments
-  pub payment : (d : List ℕ) → dayFault d ≡ 0 → (k s : ℕ) → k < lineCount d → s < 5 → size (linePayment d s k) ≤ paymentMost
 
 -- an array of five by schedule
 five-at : (f : ℕ → ℕ) (s : ℕ) → s < 5 → at (five f) s ≡ f s
@@ -92,7 +72,7 @@ module _ (layers : Layers) (d : List ℕ) (h : dayFault d ≡ 0) where
     unfolding viewOf
     widths k l =
         let a = accepted-line-at d (accepted-day d h) k l in
-        steps-sum k l (λ v. v .width) (width (lineAt d k)) (λ j. refl) ∙ layers .widths (lineAt d k) a
+        steps-sum k l (λ v. v .width) (width (lineAt d k)) (λ j. refl) ∙ widths-sum layers (lineAt d k) a
 
     pricing-sum : (k s : ℕ) → k < lineCount d → s < 5 → sumTo (cut k .count) (λ j. at (view k j .pricing) s) ≡ pricingTotal (lineAt d k) s
     unfolding viewOf
@@ -166,7 +146,7 @@ module _ (layers : Layers) (d : List ℕ) (h : dayFault d ≡ 0) where
         most =
             λ s l.
             let c = accepted-day d h .header .count-most in
-            let m = sumZ-size (lineCount d) paymentMost (linePayment d s) (λ k g. layers .payment d h k s g l) in
+            let m = sumZ-size (lineCount d) (quantityMost * priceMost) (linePayment d s) (λ k g. payment-size layers d h k g s l) in
             rw (at-five (total d) s l) (omega arith);
       }
 
@@ -184,7 +164,7 @@ module _ (layers : Layers) (d : List ℕ) (h : dayFault d ≡ 0) where
     unfolding paymentsIn linePayments
     payments-is k l =
         sumZ-same 5 (λ s. signedAt book (paymentAt k s)) (λ s. linePayment d s k)
-        (λ s g. book-payment d rest k s l g (mag-size (linePayment d s k) (omega (arith, layers .payment d h k s l g))))
+        (λ s g. book-payment d rest k s l g (mag-size (linePayment d s k) (omega (arith, payment-size layers d h k l s g))))
 
     lines-is : word book 0 ≡ lineCount d
     lines-is =
