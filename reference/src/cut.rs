@@ -14,46 +14,33 @@ pub struct Step {
     pub flags: BySchedule<bool>,
 }
 
-/// A place in one bid: its first break that is at least the next upper end.
-struct Cursor {
-    slot: usize,
-    head: u32,
-    price: u32,
-}
-
-impl Cursor {
-    fn new(line: Line, bid: usize) -> Cursor {
-        Cursor { slot: 0, head: line.break_point(bid, 0), price: line.price(bid, 0) }
-    }
-
-    /// Moves past a step's end. After the last break the last price stays.
-    fn pass(&mut self, end: u32, line: Line, bid: usize) {
-        if self.head != end {
-            return;
-        }
-        self.slot += 1;
-        if self.slot < line.count(bid) {
-            self.head = line.break_point(bid, self.slot);
-            self.price = line.price(bid, self.slot);
-        } else {
-            self.head = NO_BREAK;
-        }
-    }
-}
+/// A bid's breaks or prices with one place more.
+type Column = [u32; BID_SLOTS + 1];
 
 /// The steps of a line without fault, rising: a merge of its five bids and its hedge.
-pub struct Steps<'a> {
-    line: Line<'a>,
-    cursors: BySchedule<Cursor>,
+/// Each bid has a slot, that of its first break that is at least the next upper end.
+pub struct Steps {
+    breaks: BySchedule<Column>,
+    prices: BySchedule<Column>,
+    slots: BySchedule<usize>,
+    /// The breaks at the slots.
+    heads: BySchedule<u32>,
     hedge: u32,
     lower: u32,
 }
 
-impl<'a> Steps<'a> {
-    pub fn new(line: Line<'a>) -> Steps<'a> {
+impl Steps {
+    pub fn new(line: Line) -> Steps {
+        let mut breaks = [[NO_BREAK; BID_SLOTS + 1]; SCHEDULES];
+        let mut prices = [[0; BID_SLOTS + 1]; SCHEDULES];
+        for bid in 0..SCHEDULES {
+            read_bid(line, bid, &mut breaks[bid], &mut prices[bid]);
+        }
         Steps {
-            line,
-            cursors: std::array::from_fn(|bid| Cursor::new(line, bid)),
+            breaks,
+            prices,
+            slots: [0; SCHEDULES],
+            heads: breaks.map(|column| column[0]),
             hedge: match line.word(HEDGE) {
                 0 => NO_BREAK,
                 hedge => hedge,
@@ -61,30 +48,47 @@ impl<'a> Steps<'a> {
             lower: 0,
         }
     }
+
+    /// Moves past a step's end, without branches since none could be foreseen.
+    fn pass(&mut self, end: u32) {
+        for bid in 0..SCHEDULES {
+            self.slots[bid] += usize::from(self.heads[bid] == end);
+            self.heads[bid] = self.breaks[bid][self.slots[bid]];
+        }
+        if self.hedge == end {
+            self.hedge = NO_BREAK;
+        }
+        self.lower = end;
+    }
 }
 
-impl Iterator for Steps<'_> {
+/// Reads the breaks and prices of a bid. After the last break stands `NO_BREAK` at the last price.
+fn read_bid(line: Line, bid: usize, breaks: &mut Column, prices: &mut Column) {
+    let count = line.count(bid);
+    for slot in 0..BID_SLOTS {
+        let end = line.break_point(bid, slot);
+        breaks[slot] = if slot < count { end } else { NO_BREAK };
+        prices[slot] = line.price(bid, slot);
+    }
+    prices[count] = prices[count - 1];
+}
+
+impl Iterator for Steps {
     type Item = Step;
 
+    #[inline]
     fn next(&mut self) -> Option<Step> {
-        let heads = self.cursors.iter().map(|cursor| cursor.head);
-        let upper = heads.fold(self.hedge, u32::min);
+        let upper = self.heads.into_iter().fold(self.hedge, u32::min);
         if upper == NO_BREAK {
             return None;
         }
         let step = Step {
             lower: self.lower,
             upper,
-            prices: std::array::from_fn(|s| self.cursors[s].price),
-            flags: std::array::from_fn(|s| self.cursors[s].head == NO_BREAK),
+            prices: std::array::from_fn(|s| self.prices[s][self.slots[s]]),
+            flags: std::array::from_fn(|s| self.heads[s] == NO_BREAK),
         };
-        for (bid, cursor) in self.cursors.iter_mut().enumerate() {
-            cursor.pass(upper, self.line, bid);
-        }
-        if self.hedge == upper {
-            self.hedge = NO_BREAK;
-        }
-        self.lower = upper;
+        self.pass(upper);
         Some(step)
     }
 }
@@ -118,13 +122,17 @@ pub fn cut(line: &[u8]) -> Cut {
 }
 
 fn fill(answer: &mut Cut, line: Line) {
-    for (k, step) in Steps::new(line).enumerate() {
-        answer.count += 1;
+    let mut count = 0;
+    let mut flags = [0; SCHEDULES];
+    for (k, step) in (0..MOST_STEPS).zip(Steps::new(line)) {
+        count += 1;
         answer.ends[k] = step.upper;
-        for s in 0..SCHEDULES {
+        for (s, flags) in flags.iter_mut().enumerate() {
             answer.prices[s][k] = step.prices[s];
-            answer.flags[s] |= u64::from(step.flags[s]) << k;
+            *flags |= u64::from(step.flags[s]) << k;
         }
     }
-    answer.missing = answer.flags.map(u64::count_ones);
+    answer.count = count;
+    answer.flags = flags;
+    answer.missing = flags.map(u64::count_ones);
 }

@@ -39,6 +39,7 @@ impl<'a> LineFigures<'a> {
         self.accredited && step.upper > self.hedge
     }
 
+    #[inline(always)]
     pub fn step(&self, step: &Step) -> StepFigures {
         let market = &self.market.prices;
         let prices = std::array::from_fn(|s| step.prices[s].min(self.market.caps[s]));
@@ -46,11 +47,21 @@ impl<'a> LineFigures<'a> {
         let quantities = Quantities::new(&self.totals, step, &rates);
         let matching = Matching::new(&quantities.constrained_on);
         let payments = if self.is_paid(step) {
-            let terms = Prices { side: self.side, step: &prices, market, rates: &rates };
+            let terms = Prices {
+                side: self.side,
+                step: &prices,
+                market,
+                rates: &rates,
+            };
             Payments::new(&terms, &matching)
         } else {
             Payments::default()
         };
-        StepFigures { prices, quantities, matching, payments }
+        StepFigures {
+            prices,
+            quantities,
+            matching,
+            payments,
+        }
     }
 }

@@ -4,10 +4,7 @@ use crate::layout::*;
 
 pub fn k10() -> Vec<u8> {
     let mut day = vec![0; day_length(1)];
-    let header = [1, MARKET_OFFSET, LINES_OFFSET, day_length(1)];
-    for (place, value) in header.into_iter().enumerate() {
-        put_word(&mut day, place, value as u32);
-    }
+    put_words(&mut day, &header(1));
     for s in 0..SCHEDULES {
         put_word(&mut day, MARKET_PRICE + s, 30_000);
     }
@@ -16,8 +13,13 @@ pub fn k10() -> Vec<u8> {
 }
 
 fn fill_line(line: &mut [u8]) {
-    const OPERATING: [[u32; 2]; SCHEDULES] =
-        [[1000, 0], [1000, 1000], [1000, 1000], [1000, 500], [1000, 500]];
+    const OPERATING: [[u32; 2]; SCHEDULES] = [
+        [1000, 0],
+        [1000, 1000],
+        [1000, 1000],
+        [1000, 500],
+        [1000, 500],
+    ];
     put_word(line, PARTICIPANT, 7);
     put_word(line, POINT, 3);
     put_word(line, ACCREDITATION, 1);

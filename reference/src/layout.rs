@@ -87,6 +87,18 @@ pub fn put_word(bytes: &mut [u8], place: usize, value: u32) {
     bytes.as_chunks_mut().0[place] = value.to_le_bytes();
 }
 
+/// Writes words one after another from the start.
+pub fn put_words(bytes: &mut [u8], words: &[u32]) {
+    for (place, &value) in words.iter().enumerate() {
+        put_word(bytes, place, value);
+    }
+}
+
+/// The header of a day with so many lines.
+pub fn header(lines: usize) -> [u32; 4] {
+    [lines, MARKET_OFFSET, LINES_OFFSET, day_length(lines)].map(|word| word as u32)
+}
+
 /// The signed 64-bit number at a byte offset.
 pub fn signed(bytes: &[u8], offset: usize) -> i64 {
     i64::from_le_bytes(bytes[offset..].as_chunks().0[0])
@@ -125,6 +137,11 @@ impl<'a> Line<'a> {
 
     pub fn word(self, place: usize) -> u32 {
         u32::from_le_bytes(self.0[place])
+    }
+
+    /// Participant, point and side; no two lines of a day have equal ones.
+    pub fn key(self) -> [u32; 3] {
+        [PARTICIPANT, POINT, SIDE].map(|place| self.word(place))
     }
 
     pub fn side(self) -> Side {

@@ -1,3 +1,129 @@
-fn main() {
-    print!("{}", reference::report::settle_report(&reference::k10::k10()));
+//! The program: reports of days and lines, and generated ones to report on.
+
+use reference::generate::{damaged_day, damaged_line, line, valid_day};
+use reference::k10::k10;
+use reference::pack;
+use reference::refusal::day_number;
+use reference::report::{cut_report, settle_report, steps_report, MOST_INPUT};
+use std::io::{self, BufReader, BufWriter, Read, Write};
+use std::process::ExitCode;
+
+const USAGE: &str = "usage: reference settle|steps < DAY
+       reference cut < LINE
+       reference day SEED valid|damaged
+       reference days SEED COUNT valid|damaged|mixed
+       reference lines SEED COUNT
+       reference expect settle|steps|cut|number < PACK
+       reference k10";
+
+fn main() -> ExitCode {
+    let arguments: Vec<String> = std::env::args().skip(1).collect();
+    let arguments: Vec<&str> = arguments.iter().map(String::as_str).collect();
+    let mut out = BufWriter::new(io::stdout().lock());
+    match run(&arguments, &mut out).and_then(|known| out.flush().map(|()| known)) {
+        Ok(true) => ExitCode::SUCCESS,
+        Ok(false) => {
+            eprintln!("{USAGE}");
+            ExitCode::from(2)
+        }
+        Err(error) => {
+            eprintln!("{error}");
+            ExitCode::FAILURE
+        }
+    }
+}
+
+/// Whether the arguments are known ones.
+fn run(arguments: &[&str], out: &mut impl Write) -> io::Result<bool> {
+    match *arguments {
+        ["k10"] => out.write_all(&k10())?,
+        ["expect", kind] => return expect(kind, out),
+        [kind] => return report(kind, out),
+        ["day", seed, kind] => {
+            let (Some(seed), Some(draw)) = (number(seed), generator(kind)) else {
+                return Ok(false);
+            };
+            out.write_all(&draw(0, seed))?;
+        }
+        ["days", seed, count, kind] => return packed(seed, count, generator(kind), out),
+        ["lines", seed, count] => return packed(seed, count, Some(some_line), out),
+        _ => return Ok(false),
+    }
+    Ok(true)
+}
+
+fn number(argument: &str) -> Option<u64> {
+    argument.parse().ok()
+}
+
+/// Draws entry k of a pack from its seed.
+type Draw = fn(u64, u64) -> Vec<u8>;
+
+fn generator(kind: &str) -> Option<Draw> {
+    match kind {
+        "valid" => Some(|_, seed| valid_day(seed)),
+        "damaged" => Some(|_, seed| damaged_day(seed)),
+        "mixed" => Some(|k, seed| match k % 2 {
+            0 => valid_day(seed),
+            _ => damaged_day(seed),
+        }),
+        _ => None,
+    }
+}
+
+/// Every third line is damaged.
+fn some_line(k: u64, seed: u64) -> Vec<u8> {
+    match k % 3 {
+        2 => damaged_line(seed),
+        _ => line(seed),
+    }
+}
+
+/// Entry k has the seed SEED + k.
+fn packed(seed: &str, count: &str, draw: Option<Draw>, out: &mut impl Write) -> io::Result<bool> {
+    let (Some(seed), Some(count), Some(draw)) = (number(seed), number(count), draw) else {
+        return Ok(false);
+    };
+    for k in 0..count {
+        pack::write(out, &draw(k, seed.wrapping_add(k)))?;
+    }
+    Ok(true)
+}
+
+fn reporter(kind: &str) -> Option<fn(&[u8]) -> String> {
+    match kind {
+        "settle" => Some(settle_report),
+        "steps" => Some(steps_report),
+        "cut" => Some(cut_report),
+        _ => None,
+    }
+}
+
+fn report(kind: &str, out: &mut impl Write) -> io::Result<bool> {
+    let Some(report) = reporter(kind) else {
+        return Ok(false);
+    };
+    let mut input = Vec::new();
+    io::stdin()
+        .lock()
+        .take(MOST_INPUT as u64)
+        .read_to_end(&mut input)?;
+    out.write_all(report(&input).as_bytes())?;
+    Ok(true)
+}
+
+fn expect(kind: &str, out: &mut impl Write) -> io::Result<bool> {
+    let report = match kind {
+        "number" => |day: &[u8]| format!("{}\n", day_number(day)),
+        _ => match reporter(kind) {
+            Some(report) => report,
+            None => return Ok(false),
+        },
+    };
+    let mut input = BufReader::new(io::stdin().lock());
+    while let Some(entry) = pack::read(&mut input)? {
+        let read = &entry[..entry.len().min(MOST_INPUT)];
+        out.write_all(report(read).as_bytes())?;
+    }
+    Ok(true)
 }

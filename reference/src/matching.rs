@@ -24,7 +24,11 @@ impl Matching {
         let before = |s: usize| if s == 0 { 0 } else { constrained_on[s - 1] };
         let rises = std::array::from_fn(|s| constrained_on[s].saturating_sub(before(s)));
         let falls = std::array::from_fn(|s| before(s).saturating_sub(constrained_on[s]));
-        Matching { rises, falls, matches: matches(&rises, &falls) }
+        Matching {
+            rises,
+            falls,
+            matches: matches(&rises, &falls),
+        }
     }
 }
 

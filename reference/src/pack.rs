@@ -1,16 +1,23 @@
 //! A pack: for each entry its length as a little-endian word, then its bytes.
 
-pub fn append(pack: &mut Vec<u8>, entry: &[u8]) {
-    pack.extend((entry.len() as u32).to_le_bytes());
-    pack.extend(entry);
+use std::io::{self, Read, Write};
+
+pub fn write(out: &mut impl Write, entry: &[u8]) -> io::Result<()> {
+    out.write_all(&(entry.len() as u32).to_le_bytes())?;
+    out.write_all(entry)
 }
 
-/// The entries in order. What is left after the last whole entry is passed over.
-pub fn entries(mut pack: &[u8]) -> impl Iterator<Item = &[u8]> {
-    std::iter::from_fn(move || {
-        let (length, rest) = pack.split_first_chunk()?;
-        let (entry, rest) = rest.split_at_checked(u32::from_le_bytes(*length) as usize)?;
-        pack = rest;
-        Some(entry)
-    })
+/// The next entry, or none at the end. An entry broken off is an error.
+pub fn read(input: &mut impl Read) -> io::Result<Option<Vec<u8>>> {
+    let mut length = Vec::new();
+    input.by_ref().take(4).read_to_end(&mut length)?;
+    if length.is_empty() {
+        return Ok(None);
+    }
+    let length = length
+        .try_into()
+        .map_err(|_| io::ErrorKind::UnexpectedEof)?;
+    let mut entry = vec![0; u32::from_le_bytes(length) as usize];
+    input.read_exact(&mut entry)?;
+    Ok(Some(entry))
 }

@@ -39,6 +39,7 @@ pub struct Payments {
 }
 
 impl Payments {
+    #[inline(always)]
     pub fn new(prices: &Prices, matching: &Matching) -> Payments {
         let mut payments = Payments::default();
         for s in 0..SCHEDULES {
@@ -66,12 +67,16 @@ fn revised_fall(prices: &Prices, matching: &Matching, s: usize) -> i64 {
         let price = prices.side.lower_paid(prices.step[r], prices.step[s]);
         prices.side.rate(price, prices.market[s])
     };
-    (0..s).map(|r| product(matching.matches[pair(r, s)], rate(r))).sum()
+    (0..s)
+        .map(|r| product(matching.matches[pair(r, s)], rate(r)))
+        .sum()
 }
 
 /// The sum over earlier schedules of matches times their own rates (FD 8.4.4.2).
 fn modified_fall(prices: &Prices, matching: &Matching, s: usize) -> i64 {
-    (0..s).map(|r| product(matching.matches[pair(r, s)], prices.rates[r])).sum()
+    (0..s)
+        .map(|r| product(matching.matches[pair(r, s)], prices.rates[r]))
+        .sum()
 }
 
 /// Final payments (FD 8.4.6, 8.5.6). `pools` are those of the step's side.

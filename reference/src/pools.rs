@@ -12,7 +12,7 @@ pub struct Pool {
     /// Sums of U(s) and of D(s) over paid steps; B is the greater.
     rises: u64,
     falls: u64,
-    /// Some revised payment differs from its initial.
+    /// Some revised payment differs from its initial. Where none does, a fall's final is its initial either way.
     differs: bool,
 }
 

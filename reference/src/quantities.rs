@@ -18,7 +18,10 @@ pub fn operating_totals(line: Line) -> BySchedule<u64> {
 /// The effective actual (FD 6.1.1). It is at most the operating total of schedule 5.
 pub fn effective_actual(line: Line) -> u32 {
     let last = SCHEDULES - 1;
-    let entry = |i| line.word(operating_place(last, i)).min(line.word(actual_place(i)));
+    let entry = |i| {
+        line.word(operating_place(last, i))
+            .min(line.word(actual_place(i)))
+    };
     (0..SCHEDULES).map(entry).sum()
 }
 
@@ -57,6 +60,7 @@ pub struct Quantities {
 
 impl Quantities {
     /// `rates` are the step's R: one is above 0 where the price is above the market price (withdrawal: below).
+    #[inline(always)]
     pub fn new(totals: &LineTotals, step: &Step, rates: &BySchedule<u32>) -> Quantities {
         let on_step = |total| allocate(total, step.lower, step.upper);
         let operating = totals.operating.map(on_step);
@@ -104,5 +108,9 @@ fn constrained_on(
     agino: &BySchedule<u32>,
     msiq: &BySchedule<u32>,
 ) -> BySchedule<u32> {
-    std::array::from_fn(|s| operating[s].saturating_sub(agino[s]).saturating_sub(msiq[s]))
+    std::array::from_fn(|s| {
+        operating[s]
+            .saturating_sub(agino[s])
+            .saturating_sub(msiq[s])
+    })
 }

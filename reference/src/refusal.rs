@@ -1,7 +1,7 @@
 //! The refusals (01 "Where each refusal is checked"). Each call answers the number of the first fault met, or 0.
 
 use crate::cut::Steps;
-use crate::layout::*;
+use crate::layout::{self, *};
 use crate::quantities::{operating_totals, pricing_totals};
 
 /// Passed, or the number of the fault.
@@ -75,10 +75,8 @@ fn check_header(day: &[u8]) -> Check {
     require(day.len() >= LINES_OFFSET, 1)?;
     let n = line_count(day);
     require((1..=MOST_LINES).contains(&n), 2)?;
-    let length = day_length(n);
-    let expected = [n, MARKET_OFFSET, LINES_OFFSET, length];
-    let as_given = (1..4).all(|place| word(day, place) as usize == expected[place]);
-    require(as_given && day.len() == length, 3)
+    let header: [u32; 4] = std::array::from_fn(|place| word(day, place));
+    require(header == layout::header(n) && day.len() == day_length(n), 3)
 }
 
 /// 4 and 5.
@@ -101,7 +99,10 @@ fn check_line(line: Line) -> Check {
     };
     require(line.word(HEDGE) <= hedge_limit, 11)?;
     let within = |totals: BySchedule<u64>| totals.iter().all(|&total| total <= u64::from(most));
-    require(within(pricing_totals(line)) && within(operating_totals(line)), 12)?;
+    require(
+        within(pricing_totals(line)) && within(operating_totals(line)),
+        12,
+    )?;
     let mut actuals = (0..SCHEDULES).map(|i| line.word(actual_place(i)));
     require(actuals.all(|actual| actual <= QUANTITY_LIMIT), 13)
 }
@@ -143,7 +144,7 @@ fn prices_in_order(line: Line, bid: usize, count: usize) -> bool {
 fn check_keys(day: &Day) -> Check {
     let mut keys = [[0; 3]; MOST_LINES];
     for (k, line) in day.lines().enumerate() {
-        keys[k] = [PARTICIPANT, POINT, SIDE].map(|place| line.word(place));
+        keys[k] = line.key();
         require(!keys[..k].contains(&keys[k]), 14)?;
     }
     Ok(())

@@ -44,14 +44,18 @@ fn book_report(book: &[u8]) -> String {
     let mut text = format!("day {lines}\n");
     let starts = (0..lines).map(book_length);
     for part in starts.map(|start| &book[start..start + BOOK_LINE_BYTES]) {
-        put_key(&mut text, part);
-        put(&mut text, &format!(" {}", word(part, 3)), &signed_row(part, 16, 8));
+        let key = [0, 1, 2].map(|place| word(part, place));
+        let heading = heading(key, word(part, 3) as usize);
+        put(&mut text, &heading, &signed_row(part, 16, 8));
     }
-    put(&mut text, "total", &signed_row(book, BOOK_TOTALS_OFFSET, 16));
-    put(&mut text, "adjusted", &signed_row(book, BOOK_TOTALS_OFFSET + 8, 16));
+    let totals = signed_row(book, BOOK_TOTALS_OFFSET, 16);
+    let adjusted = signed_row(book, BOOK_TOTALS_OFFSET + 8, 16);
+    put(&mut text, "total", &totals);
+    put(&mut text, "adjusted", &adjusted);
     text
 }
 
+/// Five signed numbers, so many bytes apart.
 fn signed_row(bytes: &[u8], offset: usize, apart: usize) -> BySchedule<i64> {
     std::array::from_fn(|s| signed(bytes, offset + apart * s))
 }
@@ -59,7 +63,11 @@ fn signed_row(bytes: &[u8], offset: usize, apart: usize) -> BySchedule<i64> {
 fn steps_of_cut(answer: &Cut) -> String {
     let mut text = format!("cut {}\n", answer.count);
     for k in 0..answer.count as usize {
-        put(&mut text, &answer.ends[k].to_string(), &answer.prices.map(|row| row[k]));
+        put(
+            &mut text,
+            &answer.ends[k].to_string(),
+            &answer.prices.map(|row| row[k]),
+        );
     }
     put(&mut text, "flags", &answer.flags);
     put(&mut text, "missing", &answer.missing);
@@ -69,13 +77,12 @@ fn steps_of_cut(answer: &Cut) -> String {
 fn views_report(views: &DayView) -> String {
     let mut text = String::new();
     for (k, line) in views.day.lines().enumerate() {
-        let key = [PARTICIPANT, POINT, SIDE].map(|place| line.word(place).to_le_bytes());
-        write!(text, "line {k} ").unwrap();
-        put_key(&mut text, key.as_flattened());
         let steps: Vec<View> = views.line(line).collect();
-        put(&mut text, "", &[steps.len()]);
+        let heading = heading(line.key(), steps.len());
+        writeln!(text, "line {k} {heading}").unwrap();
         for (j, step) in steps.iter().enumerate() {
-            put(&mut text, &format!("step {j}"), &[step.upper, step.width, step.actual]);
+            let heading = format!("step {j}");
+            put(&mut text, &heading, &[step.upper, step.width, step.actual]);
             (0..SCHEDULES).for_each(|s| put_schedule(&mut text, step, s));
             put(&mut text, "matches", &step.matches);
         }
@@ -93,20 +100,19 @@ fn put_schedule(text: &mut String, step: &View, s: usize) {
         step.msiq[s],
         step.constrained_on[s],
     ];
-    let payments = [step.initial[s], step.revised[s], step.modified[s], step.finals[s]];
-    let mut row = vec![s as i64 + 1];
-    row.extend(quantities.map(i64::from));
-    row.extend(payments);
-    put(text, &row[0].to_string(), &row[1..]);
+    let payments = [&step.initial, &step.revised, &step.modified, &step.finals];
+    let payments = payments.map(|payment| payment[s]);
+    let row = [&quantities.map(i64::from)[..], &payments].concat();
+    put(text, &(s + 1).to_string(), &row);
 }
 
-/// Participant, point and side, from words in this order.
-fn put_key(text: &mut String, words: &[u8]) {
-    let side = match Side::of_word(word(words, 2)) {
+/// Participant, point, side and step count.
+fn heading([participant, point, side]: [u32; 3], steps: usize) -> String {
+    let side = match Side::of_word(side) {
         Side::Injection => "INJ",
         Side::Withdrawal => "WDR",
     };
-    write!(text, "{} {} {side}", word(words, 0), word(words, 1)).unwrap();
+    format!("{participant} {point} {side} {steps}")
 }
 
 /// A heading, values with a space before each, and a line feed.

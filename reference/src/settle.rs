@@ -23,7 +23,12 @@ fn write_book(day: &Day, book: &mut [u8]) {
     for (k, line) in day.lines().enumerate() {
         let (steps, payments) = settle_line(&day.market, line, &pools);
         let start = book_length(k);
-        write_line(&mut book[start..start + BOOK_LINE_BYTES], line, steps, &payments);
+        write_line(
+            &mut book[start..start + BOOK_LINE_BYTES],
+            line,
+            steps,
+            &payments,
+        );
         add(&mut totals, &payments);
     }
     write_header(day.line_count(), &totals, book);
@@ -54,10 +59,13 @@ fn add(sums: &mut BySchedule<i64>, payments: &BySchedule<i64>) {
 }
 
 fn write_header(lines: usize, totals: &BySchedule<i64>, book: &mut [u8]) {
-    let words = [lines, BOOK_TOTALS_OFFSET, BOOK_LINES_OFFSET, book_length(lines)];
-    for (place, value) in words.into_iter().enumerate() {
-        put_word(book, place, value as u32);
-    }
+    let words = [
+        lines,
+        BOOK_TOTALS_OFFSET,
+        BOOK_LINES_OFFSET,
+        book_length(lines),
+    ];
+    put_words(book, &words.map(|word| word as u32));
     let adjusted = adjusted(totals);
     for s in 0..SCHEDULES {
         let offset = BOOK_TOTALS_OFFSET + 16 * s;
@@ -67,10 +75,8 @@ fn write_header(lines: usize, totals: &BySchedule<i64>, book: &mut [u8]) {
 }
 
 fn write_line(part: &mut [u8], line: Line, steps: u32, payments: &BySchedule<i64>) {
-    let words = [line.word(PARTICIPANT), line.word(POINT), line.word(SIDE), steps];
-    for (place, value) in words.into_iter().enumerate() {
-        put_word(part, place, value);
-    }
+    let [participant, point, side] = line.key();
+    put_words(part, &[participant, point, side, steps]);
     for (s, &payment) in payments.iter().enumerate() {
         put_signed(part, 16 + 8 * s, payment);
     }

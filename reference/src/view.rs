@@ -34,7 +34,10 @@ pub struct View {
 pub fn view(day: &[u8], line: u64, step: u64) -> View {
     let number = view_number(day, line, step);
     if number != 0 {
-        return View { number, ..View::default() };
+        return View {
+            number,
+            ..View::default()
+        };
     }
     let day = DayView::new(day);
     let line = day.day.line(line as usize);
@@ -66,7 +69,13 @@ impl<'a> DayView<'a> {
         let pools = self.pools.side(line.side);
         let falls = &figures.matching.falls;
         let payments = figures.payments;
-        let finals = finals(self.day.market.clawback, &step.flags, falls, &payments, pools);
+        let finals = finals(
+            self.day.market.clawback,
+            &step.flags,
+            falls,
+            &payments,
+            pools,
+        );
         let quantities = figures.quantities;
         View {
             number: 0,

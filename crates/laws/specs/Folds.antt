@@ -1,15 +1,17 @@
 -- Laws of the folds of `rules`: for each, none (`-none`), one more (`-more`), and what the whole says of a part.
-use Prim.Native.Nat.{ℕ, zero, suc, _+_, _*_, _≤_, _<_, max}
+use Prim.Native.Nat.{ℕ, zero, suc, _+_, _*_, _-_, _≤_, _<_, max}
 use native.Mathlib.Numerals.{add-one}
 use native.Mathlib.Omega.{arith}
 use native.Mathlib.Decide.{decLt}
 use mathlib.Core.Path.{_≡_, refl, sym, _∙_, ap}
 use mathlib.Core.List.{List, [], _∷_, _++_}
-use mathlib.Core.Bool.{Bool, true, false, _||_}
+use lib.Dec.{eqb}
+use borrow.Author.Tests.{eq-eqb, ne-eqb}
+use mathlib.Core.Bool.{Bool, true, false, not, _||_, true≢false, false≢true}
 use lib.ListN.{length, getD, length-append, List·getD-append}
 use lib.Seq.{getD-append-seam}
 use lib.IntN.{ℤ, pos, _+ℤ_}
-use Rattle.rules.specs.Fold.{refuse, _orElse_, first, sumTo, sumZ, mostTo, someTo, joined, listTo, at}
+use Rattle.rules.specs.Fold.{refuse, _orElse_, first, sumTo, sumZ, mostTo, someTo, joined, listTo, before, five}
 
 -- refuse and orElse
 pub refuse-false : (n : ℕ) → refuse n false ≡ 0
@@ -234,3 +236,109 @@ list-at (suc n) f i h =
           let e : f i ≡ f n = ap f (omega arith) in
           rw q (getD-append-seam (listTo n f) (f n) [] 0) ∙ sym e
     ])
+
+-- a chain of refusals, test by test: the first that is met, and one that is passed
+pub stops : (n : ℕ) (t : Bool) (b : ℕ) → t ≡ true → suc n ≡ refuse (suc n) t orElse b
+unfolding refuse _orElse_
+stops n true b e = refl
+stops n false b e = absurd (false≢true e)
+
+pub passes : (n : ℕ) (t : Bool) (b r : ℕ) → t ≡ false → r ≡ b → r ≡ refuse n t orElse b
+unfolding refuse _orElse_
+passes n true b r e h = absurd (true≢false e)
+passes n false b r e h = h
+
+pub ends-at : (n : ℕ) (t : Bool) → t ≡ true → n ≡ refuse n t
+unfolding refuse
+ends-at n true e = refl
+ends-at n false e = absurd (false≢true e)
+
+pub none-at : (n : ℕ) (t : Bool) → t ≡ false → 0 ≡ refuse n t
+unfolding refuse
+none-at n true e = absurd (true≢false e)
+none-at n false e = refl
+
+-- a part of a chain that was worked out: its number where that isn't 0, else what follows
+pub part-stops : (a b r : ℕ) → r ≡ a → (r ≡ 0 → ⊥) → r ≡ a orElse b
+unfolding _orElse_
+part-stops zero b r e h = absurd (h e)
+part-stops (suc a) b r e h = e
+
+pub part-passes : (a b r x : ℕ) → x ≡ a → x ≡ 0 → r ≡ b → r ≡ a orElse b
+unfolding _orElse_
+part-passes zero b r x e z h = h
+part-passes (suc a) b r x e z h = absurd (omega arith)
+
+pub orElse-assoc : (a b c : ℕ) → (a orElse b) orElse c ≡ a orElse (b orElse c)
+unfolding _orElse_
+orElse-assoc zero b c = refl
+orElse-assoc (suc a) b c = refl
+
+-- a loop over a fold: it begins, goes on past a place that is 0, stops at one that isn't, and ends
+pub fold-begins : (f : ℕ → ℕ) (n i : ℕ) → i ≡ 0 → (i ≤ n) × (first f i ≡ 0)
+fold-begins f n i e = (omega arith, rw e (first-none f))
+
+pub fold-goes : (f : ℕ → ℕ) (n i x : ℕ) → first f i ≡ 0 → i < n → x ≡ f i → x ≡ 0 → (i + 1 ≤ n) × (first f (i + 1) ≡ 0)
+fold-goes f n i x p h e z = (omega arith, first-more f i p (sym e ∙ z))
+
+pub fold-stops : (f : ℕ → ℕ) (n i x : ℕ) → first f i ≡ 0 → i < n → x ≡ f i → (x ≡ 0 → ⊥) → x ≡ first f n
+fold-stops f n i x p h e z = e ∙ sym (first-stop f i n p h (omega arith))
+
+pub fold-ends : (f : ℕ → ℕ) (n i : ℕ) → first f i ≡ 0 → i ≤ n → n ≤ i → 0 ≡ first f n
+fold-ends f n i p h l = let e : i ≡ n = omega arith in sym (rw e at p)
+
+pub at-five : {A : Type 0} (f : ℕ → A) (d : A) (s : ℕ) → s < 5 → getD (five f) s d ≡ f s
+at-five f d zero h = refl
+at-five f d (suc zero) h = refl
+at-five f d (suc (suc zero)) h = refl
+at-five f d (suc (suc (suc zero))) h = refl
+at-five f d (suc (suc (suc (suc zero)))) h = refl
+at-five f d (suc (suc (suc (suc (suc s))))) h = absurd (omega arith)
+
+-- five terms
+pub sum-five : (f : ℕ → ℕ) → sumTo 5 f ≡ f 0 + f 1 + f 2 + f 3 + f 4
+unfolding sumTo
+sum-five f = omega arith
+
+pub first-same : (n : ℕ) (f g : ℕ → ℕ) → ((i : ℕ) → i < n → f i ≡ g i) → first f n ≡ first g n
+first-same zero f g h = first-none f ∙ sym (first-none g)
+first-same (suc n) f g h =
+    let r = first-same n f g (λ i l. h i (omega arith)) in
+    let e = h n (omega arith) in
+    rw (first-suc f n, first-suc g n, r, e)
+
+-- five places, place by place
+pub same-five : {A : Type 0} {a b c d e a′ b′ c′ d′ e′ : A}
+    → a ≡ a′ → b ≡ b′ → c ≡ c′ → d ≡ d′ → e ≡ e′
+    → a ∷ b ∷ c ∷ d ∷ e ∷ [] ≡ a′ ∷ b′ ∷ c′ ∷ d′ ∷ e′ ∷ []
+same-five p q r s t = cc
+
+-- what stands before a later place
+pub before-later : (f : ℕ → ℕ) (j : ℕ) → (j ≡ 0 → ⊥) → f (j - 1) ≡ before f j
+unfolding before
+before-later f zero h = absurd (h refl)
+before-later f (suc j) h = ap f (omega arith)
+
+pub before-first : (f : ℕ → ℕ) (j : ℕ) → j ≡ 0 → 0 ≡ before f j
+unfolding before
+before-first f zero h = refl
+before-first f (suc j) h = absurd (omega arith)
+
+-- the greatest of strictly rising numbers is the last
+pub most-rising : (f : ℕ → ℕ) (m : ℕ) → ((j : ℕ) → j < suc m → before f j < f j) → mostTo (suc m) f ≡ f m
+unfolding before
+most-rising f zero h = rw (most-suc zero f, most-none f) (omega arith)
+most-rising f (suc m) h =
+    let r = most-rising f m (λ j l. h j (omega arith)) in
+    let g = h (suc m) (omega arith) in
+    rw (most-suc (suc m) f, r) (omega arith)
+
+pub all-passed : (f : ℕ → ℕ) (n i : ℕ) → first f i ≡ 0 → i ≤ n → n ≤ i → first f n ≡ 0
+all-passed f n i p h l = sym (fold-ends f n i p h l)
+
+-- the test of two numbers that differ, and of two that agree
+pub not-eq : (a b : ℕ) → (a ≡ b → ⊥) → not (eqb a b) ≡ true
+not-eq a b h = rw (ne-eqb a b h)
+
+pub not-ne : (a b : ℕ) → a ≡ b → not (eqb a b) ≡ false
+not-ne a b h = rw (eq-eqb a b h)

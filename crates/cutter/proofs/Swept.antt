@@ -1,0 +1,254 @@
+-- What the sweep has done after n steps, as one record, with its start, its step and its end.
+use Prim.Native.Nat.{ℕ, zero, suc, _+_, _*_, _-_, _^_, _≤_, _<_}
+use native.Mathlib.Nat.{zero-add}
+use native.Mathlib.Numerals.{add-one}
+use native.Mathlib.Omega.{arith}
+use native.Mathlib.Decide.{decLt}
+use mathlib.Core.Path.{_≡_, refl, sym, _∙_, ap, ap₂, subst}
+use mathlib.Core.List.{List, [], _∷_, _++_, map}
+use lib.ListN.{length, getD, take, set, replicate, length-map, List·getD-eq-default}
+use lib.Seq.{take-all}
+use lib.Count.{ones}
+use Rattle.rules.specs.Fold.{padded, joined, sumOf, five}
+use Rattle.rules.specs.Steps.{ends, stepCount, upperEnd, lowerEnd, price, flag, greatestBreak}
+use Rattle.rules.specs.Cutting.{bits, prices, flags, flagWord, missing, priceRow, cutOf}
+use Rattle.rules.specs.declared.Cut.{Cut}
+use Rattle.laws.specs.Folds.{joined-none, joined-suc}
+use Rattle.laws.specs.Accepted.{AcceptedLine}
+use Rattle.cutter.specs.Lists.{in-at, rises-at}
+use Rattle.cutter.specs.Ends.{end-of, end-most, most-limit, ends-rise, count-most}
+use Rattle.cutter.specs.Prices.{flag-most, prices-length, prices-at, flags-length, flags-at, flags-most}
+use Rattle.cutter.specs.Arrays.{map-at, padded-length}
+use Rattle.cutter.specs.Sweep.{Line, Room, Markable, Within, past, sweepFor, sweepMoved, nextEnd, withFlag, wordsMarked, pricesPut}
+use Rattle.cutter.specs.declared.Sweep.{Sweep}
+use Rattle.cutter.specs.declared.Words.{Words}
+use Rattle.cutter.proofs.Cursors.{AtMost, at-most, cursor-price, cursor-flag, sweep-moves, sweep-next, sweep-within}
+use Rattle.cutter.proofs.Filling.{padded-set, putTo, joined-same, rows-all, bits-more, bits-below, ones-bits}
+
+-- the row of prices and the word of flags of schedule s after n steps
+unfoldable pub rowTo : List ℕ → ℕ → ℕ → List ℕ
+rowTo w n s = padded 56 (take n (prices w s))
+
+unfoldable pub wordTo : List ℕ → ℕ → ℕ → ℕ
+wordTo w n s = bits (take n (flags w s))
+
+unfoldable pub wordsTo : List ℕ → ℕ → Words
+wordsTo w n =
+    record { first = wordTo w n 0; second = wordTo w n 1; third = wordTo w n 2; fourth = wordTo w n 3; fifth = wordTo w n 4 }
+
+pub record Swept (w : List ℕ) (n : ℕ) (at : Sweep) (u : ℕ) (es ps : List ℕ) (x : Words) : Type 0 where
+  pub within : n ≤ stepCount w
+  pub here : at ≡ sweepFor w (lowerEnd w n)
+  pub next : u ≡ getD (ends w) n past
+  pub ends : es ≡ padded 56 (take n (Rattle.rules.specs.Steps.ends w))
+  pub prices : ps ≡ joined 5 (rowTo w n)
+  pub words : x ≡ wordsTo w n
+
+pub swept-none : (w : List ℕ) (at : Sweep) (u : ℕ) → Line w → at ≡ sweepFor w 0 → u ≡ nextEnd at → Swept w 0 at u (replicate 56 0) (replicate 280 0) (record { first = 0; second = 0; third = 0; fourth = 0; fifth = 0 })
+swept-none w at u h a b =
+    record {
+      within = omega arith;
+      here = unfold lowerEnd in a;
+      next = b ∙ ap nextEnd a ∙ (unfold lowerEnd in sweep-next w (h .accepted) 0 (omega arith));
+      ends = unfold padded in refl;
+      prices = unfold joined rowTo padded in refl;
+      words = unfold wordsTo wordTo bits in refl;
+    }
+
+-- a place of a list does not depend on what is given past it
+getD-any : (l : List ℕ) (n c d : ℕ) → n < length l → getD l n c ≡ getD l n d
+getD-any [] n c d h = absurd (omega arith)
+getD-any (x ∷ l) zero c d h = refl
+getD-any (x ∷ l) (suc n) c d h = getD-any l n c d (omega arith)
+
+module _ {w : List ℕ} {n : ℕ} {at : Sweep} {u : ℕ} {es ps : List ℕ} {x : Words} (h : Line w) (v : Swept w n at u es ps x) (t : u ≡ past → ⊥) where
+  pub below : n < stepCount w
+  unfolding stepCount
+  below =
+      elim (decLt n (length (ends w))) [
+        | yes l ↦ l
+        | no g ↦ absurd (t (v .next ∙ List·getD-eq-default (ends w) past (omega arith)))
+      ]
+
+  pub room : n < 56
+  room = let a = below in let b = count-most w (h .accepted) in omega arith
+
+  pub end-is : u ≡ upperEnd w n
+  unfolding upperEnd stepCount
+  end-is = v .next ∙ getD-any (ends w) n past 0 below
+
+  rises : suc (lowerEnd w n) ≤ u
+  unfolding upperEnd stepCount lowerEnd
+  rises = let a = rises-at (ends-rise w (h .accepted)) n below in let b = end-is in omega arith
+
+  before-past : u < past
+  unfolding upperEnd stepCount
+  before-past =
+      let a = end-most w (h .accepted) (upperEnd w n) (end-of w (upperEnd w n) (in-at (ends w) n below)) in
+      let b = most-limit w (h .accepted) in
+      let c = end-is in
+      omega arith
+
+  least : u ≡ nextEnd (sweepFor w (lowerEnd w n))
+  least = v .next ∙ sym (sweep-next w (h .accepted) n (v .within))
+
+  most : AtMost u (sweepFor w (lowerEnd w n))
+  most = rw least (at-most (sweepFor w (lowerEnd w n)))
+
+  -- what the cursors stand at
+  prices-here : pricesPut w ps at n ≡ putTo 5 ps n (λ s. price w s u)
+  unfolding pricesPut putTo sweepFor
+  prices-here =
+      let m = most in
+      let e = lowerEnd w n in
+      rw (
+        v .here,
+        zero-add n,
+        cursor-price w (h .accepted) 0 (omega arith) e u rises (m .first),
+        cursor-price w (h .accepted) 1 (omega arith) e u rises (m .second),
+        cursor-price w (h .accepted) 2 (omega arith) e u rises (m .third),
+        cursor-price w (h .accepted) 3 (omega arith) e u rises (m .fourth),
+        cursor-price w (h .accepted) 4 (omega arith) e u rises (m .fifth),
+      )
+
+  row-length : (s : ℕ) → length (rowTo w n s) ≡ 56
+  unfolding rowTo
+  row-length s =
+      let a = below in
+      let b = room in
+      let c = prices-length w s in
+      let d = lib.ListN.length-take n (prices w s) in
+      padded-length 56 (take n (prices w s)) (omega arith)
+
+  row-more : (s : ℕ) → set (rowTo w n s) n (price w s u) ≡ rowTo w (suc n) s
+  unfolding rowTo
+  row-more s =
+      let a = below in
+      let b = count-most w (h .accepted) in
+      let c = prices-length w s in
+      let p : price w s u ≡ getD (prices w s) n 0 = ap (price w s) end-is ∙ sym (prices-at w s n below) in
+      rw p (padded-set 56 n (prices w s) (omega arith) (omega arith))
+
+  prices-more : pricesPut w ps at n ≡ joined 5 (rowTo w (suc n))
+  prices-more =
+      prices-here
+      ∙ ap (λ (l : List ℕ). putTo 5 l n (λ s. price w s u)) (v .prices)
+      ∙ rows-all 5 n (rowTo w n) (rowTo w (suc n)) (λ s. price w s u) room row-length row-more
+
+  word-more : (s m : ℕ) → m ≡ flag w s u → withFlag (wordTo w n s) m n ≡ wordTo w (suc n) s
+  unfolding wordTo
+  word-more s m e =
+      let a = below in
+      let c = flags-length w s in
+      let p : m ≡ getD (flags w s) n 0 = e ∙ ap (flag w s) end-is ∙ sym (flags-at w s n below) in
+      rw p (sym (bits-more (flags w s) n (omega arith)))
+
+  words-more : wordsMarked x at n ≡ wordsTo w (suc n)
+  unfolding wordsMarked wordsTo sweepFor
+  words-more =
+      let m = most in
+      let e = lowerEnd w n in
+      rw (v .here, v .words)
+      (λ i.
+      record {
+        first = word-more 0 _ (cursor-flag w (h .accepted) 0 (omega arith) e u rises (m .first)) i;
+        second = word-more 1 _ (cursor-flag w (h .accepted) 1 (omega arith) e u rises (m .second)) i;
+        third = word-more 2 _ (cursor-flag w (h .accepted) 2 (omega arith) e u rises (m .third)) i;
+        fourth = word-more 3 _ (cursor-flag w (h .accepted) 3 (omega arith) e u rises (m .fourth)) i;
+        fifth = word-more 4 _ (cursor-flag w (h .accepted) 4 (omega arith) e u rises (m .fifth)) i;
+      })
+
+  room-for : (s m : ℕ) → m ≡ flag w s u → Room (wordTo w n s) m n
+  unfolding wordTo
+  room-for s m e =
+      let f = flag-most w s u in
+      record { word = bits-below (flags w s) (flags-most w s) n; flag = omega arith; step = room }
+
+  pub markable : Markable x at n
+  unfolding wordsTo sweepFor
+  markable =
+      let m = most in
+      let e = lowerEnd w n in
+      rw (v .here, v .words)
+      (record {
+        first = room-for 0 _ (cursor-flag w (h .accepted) 0 (omega arith) e u rises (m .first));
+        second = room-for 1 _ (cursor-flag w (h .accepted) 1 (omega arith) e u rises (m .second));
+        third = room-for 2 _ (cursor-flag w (h .accepted) 2 (omega arith) e u rises (m .third));
+        fourth = room-for 3 _ (cursor-flag w (h .accepted) 3 (omega arith) e u rises (m .fourth));
+        fifth = room-for 4 _ (cursor-flag w (h .accepted) 4 (omega arith) e u rises (m .fifth));
+      })
+
+  pub at-within : Within at u
+  at-within = rw (v .here) (sweep-within w (h .accepted) (lowerEnd w n) u rises before-past least)
+
+  moves : sweepMoved w at u ≡ sweepFor w (lowerEnd w (suc n))
+  unfolding lowerEnd upperEnd
+  moves =
+      rw (v .here) (sweep-moves w (h .accepted) (lowerEnd w n) u rises before-past least) ∙ ap (sweepFor w) end-is
+
+  pub swept-more : {at' : Sweep} {u' : ℕ} {ps' : List ℕ} {x' : Words} → ps' ≡ pricesPut w ps at n → x' ≡ wordsMarked x at n → at' ≡ sweepMoved w at u → u' ≡ nextEnd at' → Swept w (n + 1) at' u' (set es n u) ps' x'
+  swept-more p q r s =
+      let a = below in
+      let c = count-most w (h .accepted) in
+      let m = r ∙ moves in
+      rw (add-one n)
+      (record {
+        within = below;
+        here = m;
+        next = s ∙ ap nextEnd m ∙ sweep-next w (h .accepted) (suc n) below;
+        ends = rw (v .ends, end-is) (unfold upperEnd stepCount in padded-set 56 n (ends w) below c);
+        prices = p ∙ prices-more;
+        words = q ∙ words-more;
+      })
+
+-- after the last step
+module _ {w : List ℕ} {n : ℕ} {at : Sweep} {u : ℕ} {es ps : List ℕ} {x : Words} (h : Line w) (v : Swept w n at u es ps x) (t : u ≡ past) where
+  all : n ≡ stepCount w
+  unfolding stepCount
+  all =
+      let l = v .within in
+      elim (decLt n (length (ends w))) [
+        | yes k ↦
+            let a = getD-any (ends w) n past 0 k in
+            let b = end-most w (h .accepted) (getD (ends w) n 0) (end-of w (getD (ends w) n 0) (in-at (ends w) n k)) in
+            let c = most-limit w (h .accepted) in
+            let d = v .next in
+            absurd (omega arith)
+        | no g ↦ omega arith
+      ]
+
+  word-all : (s : ℕ) → wordTo w n s ≡ flagWord w s
+  unfolding wordTo flagWord
+  word-all s =
+      let a = all in
+      let c = flags-length w s in
+      ap bits (take-all n (flags w s) (omega arith))
+
+  ones-all : (s : ℕ) → ones (wordTo w n s) ≡ missing w s
+  unfolding missing flagWord
+  ones-all s = ap ones (word-all s) ∙ ones-bits (flags w s) (flags-most w s)
+
+  row-all : (s : ℕ) → rowTo w n s ≡ priceRow w s
+  unfolding rowTo priceRow
+  row-all s =
+      let a = all in
+      let c = prices-length w s in
+      ap (padded 56) (take-all n (prices w s) (omega arith))
+
+  ends-all : es ≡ padded 56 (ends w)
+  unfolding stepCount
+  ends-all = let a = all in v .ends ∙ ap (padded 56) (take-all n (ends w) (omega arith))
+
+  pub swept-all : _≡_ {A = Cut} (record { number = 0; count = n; ends = es; prices = ps; flags = x .first ∷ x .second ∷ x .third ∷ x .fourth ∷ x .fifth ∷ []; missing = ones (x .first) ∷ ones (x .second) ∷ ones (x .third) ∷ ones (x .fourth) ∷ ones (x .fifth) ∷ [] }) (cutOf w)
+  unfolding cutOf wordsTo
+  swept-all =
+      rw (v .words)
+      (λ i.
+      record {
+        number = 0;
+        count = all i;
+        ends = ends-all i;
+        prices = (v .prices ∙ joined-same 5 (rowTo w n) (priceRow w) row-all) i;
+        flags = word-all 0 i ∷ word-all 1 i ∷ word-all 2 i ∷ word-all 3 i ∷ word-all 4 i ∷ [];
+        missing = ones-all 0 i ∷ ones-all 1 i ∷ ones-all 2 i ∷ ones-all 3 i ∷ ones-all 4 i ∷ [];
+      })

@@ -1,0 +1,18 @@
+use native.Mathlib.Omega.{arith}
+use borrow.Author.Needs.{needs}
+use Rattle.cutter.proofs.Moves.{flag-put}
+use Rattle.cutter.proofs.with_flag.Statement.{statement}
+use Rattle.cutter.proofs.with_flag.Tie as tie
+use Rattle.cutter.proofs.with_flag.Reads as reads
+use Rattle.cutter.proofs.with_flag.Lts as lts
+
+-- src/lib.rt:180:13
+shl-result : tie.Need-shl-result
+shl-result c = search needs
+
+-- src/lib.rt:176:1
+returns : tie.Need-returns
+returns c = flag-put _ _ _ (c .pre)
+
+pub with-flag-spec : {M : Type 1} → statement M
+with-flag-spec = tie.close (tie.spec shl-result returns)

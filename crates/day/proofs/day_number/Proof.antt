@@ -1,0 +1,45 @@
+-- `day::day_number` meets its contract.
+use native.Mathlib.Omega.{arith}
+use borrow.Author.Needs.{needs}
+use Rattle.rules.specs.Fold.{before}
+use Rattle.day.proofs.Laws.{day-header, the-header, day-market, day-lines, day-keys}
+use Rattle.day.proofs.day_number.Statement.{statement}
+use Rattle.day.proofs.day_number.Tie as tie
+
+returns : tie.Need-returns
+returns c = day-header _ _ (c .before .header-number .ensures) (c .if1 .taken)
+
+market-number-requires : tie.Need-market-number-requires
+market-number-requires c κs = omega (arith, the-header _ _ (c .before .header-number .ensures) (c .if1 .left) .length-least)
+
+returns-2 : tie.Need-returns-2
+returns-2 c = day-market _ _ (c .before .before .before .header-number .ensures) (c .before .before .if1 .left) _ (c .before .market-number .ensures) (c .if2 .taken)
+
+line-count-requires : tie.Need-line-count-requires
+line-count-requires c κs = omega (arith, the-header _ _ (c .before .before .before .header-number .ensures) (c .before .before .if1 .left) .length-least)
+
+lines-number-requires : tie.Need-lines-number-requires
+lines-number-requires c κs = (omega (arith, the-header _ _ (c .before .before .before .before .header-number .ensures) (c .before .before .before .if1 .left) .count-most, c .line-count .ensures), omega (arith, the-header _ _ (c .before .before .before .before .header-number .ensures) (c .before .before .before .if1 .left) .length-is, c .line-count .ensures))
+
+returns-3 : tie.Need-returns-3
+returns-3 c = day-lines _ _ (c .before .before .before .before .before .before .header-number .ensures) (c .before .before .before .before .before .if1 .left) _ (c .before .before .before .before .market-number .ensures) (c .before .before .before .if2 .left) _ _ (c .before .before .line-count .ensures) (c .before .lines-number .ensures) (c .if3 .taken)
+
+keys-number-requires : tie.Need-keys-number-requires
+keys-number-requires c κs = (omega (arith, the-header _ _ (c .before .before .before .before .before .before .header-number .ensures) (c .before .before .before .before .before .if1 .left) .count-most, c .before .before .line-count .ensures), omega (arith, the-header _ _ (c .before .before .before .before .before .before .header-number .ensures) (c .before .before .before .before .before .if1 .left) .length-is, c .before .before .line-count .ensures))
+
+returns-4 : tie.Need-returns-4
+returns-4 c = day-keys _ _ (c .before .before .before .before .before .before .before .header-number .ensures) (c .before .before .before .before .before .before .if1 .left) _ (c .before .before .before .before .before .market-number .ensures) (c .before .before .before .before .if2 .left) _ _ (c .before .before .before .line-count .ensures) (c .before .before .lines-number .ensures) (c .before .if3 .left) _ (c .keys-number .ensures)
+
+pub day-number-spec : {M : Type 1} → statement M
+day-number-spec =
+    tie.close
+    (tie.spec
+    (λ c κs. search needs)
+    returns
+    market-number-requires
+    returns-2
+    line-count-requires
+    lines-number-requires
+    returns-3
+    keys-number-requires
+    returns-4)

@@ -1,0 +1,84 @@
+// One line's 660 bytes: the kinds quantity and price, fields, totals, and refusals 6 to 13.
+pub mod bids;
+pub mod kinds;
+pub mod sums;
+
+use bids::break_number;
+use bids::count_of;
+use bids::slots_number;
+use sums::tail_number;
+ghost use mathlib.Core.Path.{_≡_};
+ghost use Prim.Native.Nat.{_+_, _*_, _≤_};
+ghost use lib.ListN.{length};
+ghost use Rattle.rules.specs.Fold.{first};
+ghost use Rattle.rules.specs.Refusals.{lineFault};
+ghost use Rattle.line.specs.Parts.{headFault, lineFrom};
+
+// Row 6: side and accreditation.
+pub fn head_number(line: &[u8]) -> u32
+    requires { ⌜ length (now line) ≡ 660 ⌝ }
+    ensures { λ r. ⌜ r ≡ headFault (now (line .entry)) ⌝ }
+{
+    if bytes_le::word_at(line, 8) > 1 {
+        return 6;
+    }
+    if bytes_le::word_at(line, 12) > 1 {
+        return 6;
+    }
+    0
+}
+
+// The refusal of `n` lines that stand one after another from byte `at` on: rows 6 to 13, the first fault met.
+pub fn lines_number(b: &[u8], at: usize, n: usize) -> u32
+    requires { ⌜ (n ≤ 64) × (at + 660 * n ≤ length (now b)) ⌝ }
+    ensures { λ r. ⌜ r ≡ first (lineFrom (now (b .entry)) at) n ⌝ }
+{
+    let mut k = 0;
+    'lines: loop {
+        if n <= k {
+            break 'lines 0;
+        }
+        let from = at + 660 * k;
+        let line = &b[from..from + 660];
+        let head = head_number(line);
+        if head != 0 {
+            break 'lines head;
+        }
+        let mut s = 0;
+        while s < 5 {
+            let count = count_of(line, s);
+            if count == 0 {
+                break 'lines 7;
+            }
+            if 11 < count {
+                break 'lines 7;
+            }
+            let mut j = 0;
+            while j < count {
+                let fault = break_number(line, s, j);
+                if fault != 0 {
+                    break 'lines fault;
+                }
+                j += 1;
+            }
+            let slots = slots_number(line, s, count);
+            if slots != 0 {
+                break 'lines slots;
+            }
+            s += 1;
+        }
+        let tail = tail_number(line);
+        if tail != 0 {
+            break 'lines tail;
+        }
+        k += 1;
+    }
+}
+
+// The refusal of one line: rows 6 to 13.
+pub fn line_number(line: &[u8]) -> u32
+    requires { ⌜ length (now line) ≡ 660 ⌝ }
+    ensures { λ r. ⌜ r ≡ lineFault (now (line .entry)) ⌝ }
+{
+    lines_number(line, 0, 1)
+}

@@ -1,0 +1,2 @@
+-- Laws that the proofs of `payments` cite.
+pub mod Joining

@@ -1,0 +1,129 @@
+//! Days and lines drawn from a seed, without fault or damaged. One seed always gives the same bytes.
+
+mod day_faults;
+mod draw;
+mod line_faults;
+mod random;
+
+use crate::layout::*;
+use day_faults::{line_mut, line_with_own_key, DAY_FAULTS};
+use draw::{draw_day, draw_line, Scale};
+use line_faults::LINE_FAULTS;
+use random::Random;
+
+/// A day without fault: 1 to 64 lines.
+pub fn valid_day(seed: u64) -> Vec<u8> {
+    let mut random = Random::new(seed);
+    let lines = match random.below(8) {
+        0 => 1,
+        1 => MOST_LINES as u32,
+        2 => random.range(1, MOST_LINES as u32),
+        _ => random.range(2, 8),
+    };
+    let scale = Scale::draw(&mut random);
+    draw_day(&mut random, lines, scale)
+}
+
+/// A line without fault, of either side and 1 to 56 steps.
+pub fn line(seed: u64) -> Vec<u8> {
+    let steps = Random::new(seed).range(1, MOST_STEPS as u32);
+    line_with_steps(seed, steps as usize)
+}
+
+/// A line without fault and with so many steps, 1 to 56. With 56 it is an injection.
+pub fn line_with_steps(seed: u64, steps: usize) -> Vec<u8> {
+    let mut random = Random::new(seed);
+    let scale = Scale::draw(&mut random);
+    let side = match steps {
+        MOST_STEPS => Side::Injection,
+        _ => random.side(),
+    };
+    draw_line(&mut random, scale, side, steps)
+}
+
+pub fn damaged_day(seed: u64) -> Vec<u8> {
+    damaged_day_and_number(seed).0
+}
+
+/// A damaged day and, where it is known beforehand, its number. The number is 0 for a value
+/// on the passing side of a limit. Seeds in a row go through all the faults.
+pub fn damaged_day_and_number(seed: u64) -> (Vec<u8>, Option<u32>) {
+    let mut random = Random::new(seed);
+    let lines = match random.below(16) {
+        0 => MOST_LINES as u32,
+        _ => random.range(2, 6),
+    };
+    let scale = Scale::draw(&mut random);
+    let mut day = draw_day(&mut random, lines, scale);
+    let kinds = DAY_FAULTS.len() + LINE_FAULTS.len();
+    let kind = (seed % kinds as u64) as usize;
+    let number = match random.below(8) {
+        0 => {
+            damage_day(&mut day, &mut random, kind);
+            replace_some_word(&mut day, &mut random);
+            None
+        }
+        1 => {
+            let line_fault = DAY_FAULTS.len() + random.place(LINE_FAULTS.len());
+            damage_day(&mut day, &mut random, line_fault);
+            damage_day(&mut day, &mut random, kind % DAY_FAULTS.len());
+            None
+        }
+        _ => Some(damage_day(&mut day, &mut random, kind)),
+    };
+    (day, number)
+}
+
+/// Puts a fault into a day and answers its number. Kinds count through the day's faults, then the lines'.
+fn damage_day(day: &mut Vec<u8>, random: &mut Random, kind: usize) -> u32 {
+    if let Some((number, apply)) = DAY_FAULTS.get(kind) {
+        apply(day, random);
+        return *number;
+    }
+    let (number, apply) = LINE_FAULTS[kind - DAY_FAULTS.len()];
+    let k = line_with_own_key(day, random);
+    apply(line_mut(day, k), random);
+    number
+}
+
+fn replace_some_word(bytes: &mut [u8], random: &mut Random) {
+    let words = bytes.len() / 4;
+    if words > 0 {
+        let any = random.range(0, u32::MAX);
+        let value = random.pick(&[
+            0,
+            1,
+            2,
+            3,
+            11,
+            12,
+            PRICE_LIMIT + 1,
+            QUANTITY_LIMIT + 1,
+            u32::MAX,
+            any,
+        ]);
+        put_word(bytes, random.place(words), value);
+    }
+}
+
+pub fn damaged_line(seed: u64) -> Vec<u8> {
+    damaged_line_and_number(seed).0
+}
+
+/// A damaged line and the cutter's number for it, as for a damaged day.
+pub fn damaged_line_and_number(seed: u64) -> (Vec<u8>, u32) {
+    const LENGTHS: [usize; 5] = [0, 1, LINE_BYTES - 4, LINE_BYTES - 1, LINE_BYTES + 1];
+    let mut line = line(seed);
+    let kind = (seed % (LENGTHS.len() + LINE_FAULTS.len()) as u64) as usize;
+    match LENGTHS.get(kind) {
+        Some(&length) => {
+            line.resize(length, 0);
+            (line, 18)
+        }
+        None => {
+            let (number, apply) = LINE_FAULTS[kind - LENGTHS.len()];
+            apply(&mut line, &mut Random::new(!seed));
+            (line, number)
+        }
+    }
+}

@@ -1,0 +1,36 @@
+//! Tests of the reference implementation. Expected figures are those of document 01 and the functional design.
+
+mod figures;
+mod laws;
+mod programs;
+mod reach;
+mod refusals;
+mod second;
+mod table1;
+
+use reference::generate::valid_day;
+use reference::layout::book_length;
+use reference::settle::settle;
+
+/// What the settling program prints for K10.
+const K10_REPORT: &str = "day 1
+7 3 INJ 2 0 20000000 0 -10000000 0
+total 0 20000000 0 -10000000 0
+adjusted 0 10000000 0 0 0
+";
+
+/// Generated days that every law, and the second computation, is tried on.
+fn valid_days() -> impl Iterator<Item = Vec<u8>> {
+    (0..300).map(valid_day)
+}
+
+fn line_count(day: &[u8]) -> usize {
+    u32::from_le_bytes(day[..4].try_into().unwrap()) as usize
+}
+
+/// The book of a day without fault.
+fn book_of(day: &[u8]) -> Vec<u8> {
+    let mut book = vec![0; book_length(line_count(day))];
+    assert_eq!(settle(day, &mut book), 0);
+    book
+}

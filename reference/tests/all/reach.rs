@@ -1,0 +1,184 @@
+//! That the generated days reach what the laws are to be tried on.
+
+use crate::{line_count, valid_days};
+use reference::generate::{line, line_with_steps};
+use reference::layout::*;
+use reference::refusal::{cut_number, day_number};
+use reference::view::{DayView, View};
+use std::collections::BTreeSet;
+
+/// What was met on a day.
+#[derive(Default)]
+struct Met(BTreeSet<&'static str>);
+
+impl Met {
+    fn note(&mut self, what: &'static str, met: bool) {
+        if met {
+            self.0.insert(what);
+        }
+    }
+
+    fn day(&mut self, day: &[u8]) {
+        let views = DayView::new(day);
+        let market = &views.day.market;
+        self.note("one line", line_count(day) == 1);
+        self.note("64 lines", line_count(day) == 64);
+        self.note("clawback off", !market.clawback);
+        self.note(
+            "market price at its limit",
+            market.prices.contains(&PRICE_LIMIT),
+        );
+        for line in views.day.lines() {
+            let steps: Vec<View> = views.line(line).collect();
+            self.line(line, &steps);
+            steps.iter().for_each(|step| self.step(step, market));
+        }
+        for side in [Side::Injection, Side::Withdrawal] {
+            let of_side = views
+                .day
+                .lines()
+                .filter(|line| line.side() == side && line.word(ACCREDITATION) == 1);
+            let paid = |line: Line| {
+                views
+                    .line(line)
+                    .skip_while(move |v| v.upper <= line.word(HEDGE))
+                    .collect()
+            };
+            let steps: Vec<View> = of_side
+                .flat_map(|line| -> Vec<View> { paid(line) })
+                .collect();
+            (1..5).for_each(|s| self.pool(&steps, s, side));
+        }
+    }
+
+    fn line(&mut self, line: Line, steps: &[View]) {
+        self.note("injection", line.side() == Side::Injection);
+        self.note("withdrawal", line.side() == Side::Withdrawal);
+        self.note("not accredited", line.word(ACCREDITATION) == 0);
+        self.note("hedge", line.word(HEDGE) != 0);
+        self.note("56 steps", steps.len() == 56);
+        self.note("one step", steps.len() == 1);
+        self.note("quantity limit", line.greatest_break() == QUANTITY_LIMIT);
+        self.note(
+            "a line without flags",
+            steps.iter().all(|v| v.flag == [0; 5]),
+        );
+    }
+
+    fn step(&mut self, v: &View, market: &Market) {
+        self.note("flag", v.flag != [0; 5]);
+        self.note(
+            "cap in effect",
+            (0..5).any(|s| v.price[s] == market.caps[s]),
+        );
+        self.note("price limit", v.price.contains(&PRICE_LIMIT));
+        self.note(
+            "AGINO in all schedules",
+            v.agino.iter().all(|&agino| agino > 0),
+        );
+        self.note("MSIQ below E", v.msiq != v.pricing);
+        self.note(
+            "two matches of a fall",
+            v.matches[6..].iter().filter(|&&m| m > 0).count() > 1,
+        );
+        for s in 1..5 {
+            let of_flag = v.flag[s] == 1 && v.finals[s] == v.modified[s];
+            self.note(
+                "final is modified by flag",
+                of_flag && v.modified[s] != v.revised[s],
+            );
+            self.note(
+                "final is revised",
+                v.finals[s] == v.revised[s] && v.revised[s] != v.initial[s],
+            );
+        }
+    }
+
+    /// Where the quotient T times D / B decides a final payment, or the initial is greater.
+    fn pool(&mut self, steps: &[View], s: usize, side: Side) {
+        let change =
+            |v: &View| i128::from(v.constrained_on[s]) - i128::from(v.constrained_on[s - 1]);
+        let total: i128 = steps.iter().map(|v| i128::from(v.revised[s])).sum();
+        let rises: i128 = steps.iter().map(|v| change(v).max(0)).sum();
+        let falls: i128 = steps.iter().map(|v| (-change(v)).max(0)).sum();
+        let base = rises.max(falls);
+        for v in steps
+            .iter()
+            .filter(|v| v.flag[s] == 0 && v.initial[s] < 0 && total > 0)
+        {
+            let product = total * -change(v);
+            let pooled = i128::from(v.revised[s]) - product / base;
+            let exact = product % base == 0;
+            let by_pool = i128::from(v.finals[s]) == pooled && v.finals[s] > v.initial[s];
+            let decided = by_pool && v.finals[s] != v.revised[s];
+            self.note(
+                "pooled injection with a remainder",
+                decided && !exact && side == Side::Injection,
+            );
+            self.note(
+                "pooled withdrawal with a remainder",
+                decided && !exact && side == Side::Withdrawal,
+            );
+            self.note(
+                "product above 64 bits",
+                decided && product > i128::from(u64::MAX),
+            );
+            let kept = v.finals[s] == v.initial[s] && pooled < i128::from(v.initial[s]);
+            self.note(
+                "initial above the pooled",
+                kept && v.initial[s] < v.revised[s],
+            );
+        }
+    }
+}
+
+#[test]
+fn generated_days_reach() {
+    let mut met = Met::default();
+    for day in valid_days() {
+        assert_eq!(day_number(&day), 0);
+        met.day(&day);
+    }
+    let wanted = [
+        "one line",
+        "64 lines",
+        "clawback off",
+        "market price at its limit",
+        "injection",
+        "withdrawal",
+        "not accredited",
+        "hedge",
+        "56 steps",
+        "one step",
+        "quantity limit",
+        "a line without flags",
+        "flag",
+        "cap in effect",
+        "price limit",
+        "AGINO in all schedules",
+        "MSIQ below E",
+        "two matches of a fall",
+        "final is modified by flag",
+        "final is revised",
+        "pooled injection with a remainder",
+        "pooled withdrawal with a remainder",
+        "product above 64 bits",
+        "initial above the pooled",
+    ];
+    let missing: Vec<_> = wanted
+        .into_iter()
+        .filter(|what| !met.0.contains(what))
+        .collect();
+    assert!(missing.is_empty(), "not reached: {missing:?}");
+}
+
+#[test]
+fn lines_have_the_steps_asked_for() {
+    for steps in 1..=MOST_STEPS {
+        for seed in 0..20 {
+            let line = line_with_steps(seed, steps);
+            assert_eq!(reference::cut::cut(&line).count as usize, steps);
+        }
+    }
+    assert!((0..500).all(|seed| cut_number(&line(seed)) == 0));
+}
