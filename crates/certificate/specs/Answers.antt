@@ -15,14 +15,9 @@ use Rattle.rules.specs.Cutting.{cutOf, cutAnswer, stepPlaces}
 use Rattle.rules.specs.Matching.{matchesOf, matched, tenMatches}
 use Rattle.rules.specs.Viewing.{viewOf, viewAnswer}
 use Rattle.rules.specs.declared.View.{View}
-use Rattle.rules.specs.declared.Cut.{Cut}
 use Rattle.laws.specs.Accepted.{AcceptedDay, accepted-day}
 use Rattle.laws.specs.Folds.{refuse-false}
 use Rattle.certificate.specs.Certificate.{endAt, widthAt, matchesBefore, matchIn}
-
--- the cutter's answer for the bytes of line k
-abbrev pub lineCut : List ℕ → ℕ → Cut
-lineCut d k = cutAnswer (lineAt d k)
 
 -- a line of an accepted day has its 660 bytes
 line-length : (d : List ℕ) → AcceptedDay d → (k : ℕ) → k < lineCount d → length (lineAt d k) ≡ 660
@@ -59,7 +54,7 @@ module _ (w : List ℕ) where
 
   pub width-at : (j : ℕ) → j < stepCount w → widthAt (cutOf w) j ≡ width w j
   unfolding widthAt width
-  width-at j l = rw (end-at j l, before-at j l)
+  width-at j l = simp (end-at j l, before-at j l)
 
 -- the ten matches are those of the definition
 ten-at : (c : List ℕ) (s r : ℕ) → r < s → s < 5 → getD (tenMatches c) (matchesBefore s + r) 0 ≡ matched c s r

@@ -7,3 +7,4 @@ pub mod Layers
 pub mod Ends
 pub mod Paid
 pub mod Proof
+pub mod Uses

@@ -14,7 +14,7 @@ use Rattle.rules.specs.Quantities.{pricingTotal, operatingTotal}
 use Rattle.rules.specs.Matching.{rise, fall, matched}
 use Rattle.rules.specs.Payments.{operatingOn, pricingOn, aginoOn, msiqOn, onStep, stepOf}
 use Rattle.rules.specs.Refusals.{dayFault, bookLength}
-use Rattle.rules.specs.Cutting.{cutOf}
+use Rattle.rules.specs.Cutting.{cutOf, cutAnswer}
 use Rattle.rules.specs.Viewing.{viewOf, viewAnswer}
 use Rattle.rules.specs.Totals.{linePayment, total, totals, adjustedTotal}
 use Rattle.rules.specs.Book.{bookOf, bookAfter}
@@ -32,7 +32,7 @@ use Rattle.certificate.specs.Ends.{widths-sum}
 use Rattle.certificate.specs.Paid.{payment-size}
 use Rattle.certificate.specs.Sums.{sumZ-same, sumZ-size}
 use Rattle.certificate.specs.Money.{linePayments, at-five, adjusted-payments, adjusted-order}
-use Rattle.certificate.specs.Answers.{lineCut, view-whole, cut-whole, settle-taken, end-at, width-at, match-at}
+use Rattle.certificate.specs.Answers.{view-whole, cut-whole, settle-taken, end-at, width-at, match-at}
 
 -- an array of five by schedule
 five-at : (f : ℕ → ℕ) (s : ℕ) → s < 5 → at (five f) s ≡ f s
@@ -184,27 +184,27 @@ module _ (layers : Layers) (d : List ℕ) (h : dayFault d ≡ 0) where
         let m = adjusted-order d r s l g (omega arith) in
         rw (adjusted-is s g) (le-ltZ (adjustedTotal d s) (pos 0) (omega arith))
 
-  -- THE CERTIFICATE, from what the layers show
-  pub certified-by : (b : List ℕ) → bookLength (lineCount d) ≤ length b → Certified d (bookAfter d b) (viewAnswer d) (lineCut d)
-  certified-by b l =
-      let rest = drop (bookLength (lineCount d)) b in
-      let vs = view-whole d h in
-      let cs : (k : ℕ) → k < lineCount d → lineCut d k ≡ cutOf (lineAt d k) = cut-whole d h in
-      rw (after-settling d b (settle-taken d h b l))
-      (record {
-        cut-taken = λ k g. cut-number (viewAnswer d) (lineCut d) vs cs k g;
-        view-taken = λ k j g i. view-number (viewAnswer d) (lineCut d) vs cs k j g i;
-        widths = λ k g. widths (viewAnswer d) (lineCut d) vs cs k g;
-        same-end = λ k j g i. same-end (viewAnswer d) (lineCut d) vs cs k j g i;
-        same-width = λ k j g i. same-width (viewAnswer d) (lineCut d) vs cs k j g i;
-        pricing-sum = λ k s g i. pricing-sum (viewAnswer d) (lineCut d) vs cs k s g i;
-        operating-sum = λ k s g i. operating-sum (viewAnswer d) (lineCut d) vs cs k s g i;
-        agino-most = λ k j s g i m. agino-most (viewAnswer d) (lineCut d) vs cs k j s g i m;
-        msiq-most = λ k j s g i m. msiq-most (viewAnswer d) (lineCut d) vs cs k j s g i m;
-        falls = λ k j s g i m. falls (viewAnswer d) (lineCut d) vs cs k j s g i m;
-        rises = λ k j r g i m. rises (viewAnswer d) (lineCut d) vs cs k j r g i m;
-        balance = λ k j s g i m. balance (viewAnswer d) (lineCut d) vs cs k j s g i m;
-        lines = lines-is rest;
-        adjusted-sum = sum-is rest;
-        adjusted-order = order-is rest;
-      })
+-- THE CERTIFICATE, of answers that meet the contracts of settling, the step view and the cutter
+pub certified-by : Layers → (d b book : List ℕ) (view : ℕ → ℕ → View) (cut : ℕ → Cut) → dayFault d ≡ 0 → bookLength (lineCount d) ≤ length b → book ≡ bookAfter d b → ((k j : ℕ) → view k j ≡ viewAnswer d k j) → ((k : ℕ) → cut k ≡ cutAnswer (lineAt d k)) → Certified d book view cut
+certified-by layers d b book view cut h l settled viewed cutted =
+    let rest = drop (bookLength (lineCount d)) b in
+    let vs : (k j : ℕ) → k < lineCount d → j < stepCount (lineAt d k) → view k j ≡ viewOf d k j = λ k j g i. viewed k j ∙ view-whole d h k j g i in
+    let cs : (k : ℕ) → k < lineCount d → cut k ≡ cutOf (lineAt d k) = λ k g. cutted k ∙ cut-whole d h k g in
+    rw (settled ∙ after-settling d b (settle-taken d h b l))
+    (record {
+      cut-taken = cut-number layers d h view cut vs cs;
+      view-taken = view-number layers d h view cut vs cs;
+      widths = widths layers d h view cut vs cs;
+      same-end = same-end layers d h view cut vs cs;
+      same-width = same-width layers d h view cut vs cs;
+      pricing-sum = pricing-sum layers d h view cut vs cs;
+      operating-sum = operating-sum layers d h view cut vs cs;
+      agino-most = agino-most layers d h view cut vs cs;
+      msiq-most = msiq-most layers d h view cut vs cs;
+      falls = falls layers d h view cut vs cs;
+      rises = rises layers d h view cut vs cs;
+      balance = balance layers d h view cut vs cs;
+      lines = lines-is layers d h rest;
+      adjusted-sum = sum-is layers d h rest;
+      adjusted-order = order-is layers d h rest;
+    })
