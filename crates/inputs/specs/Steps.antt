@@ -1,23 +1,20 @@
 -- Step j of line k of an accepted day is what the parts give, and its sizes.
-use Prim.Native.Nat.{ℕ, zero, suc, _≤_, _<_, min}
+use Prim.Native.Nat.{ℕ, _≤_, _<_}
 use native.Mathlib.Omega.{arith}
 use mathlib.Core.Path.{_≡_, _∙_, ap}
 use mathlib.Core.List.{List}
-use mathlib.Core.Bool.{Bool, true, false, cond}
 use lib.ListN.{length, getD}
-use lib.Dec.{eqb}
-use Rattle.rules.specs.Fold.{five, at}
-use Rattle.rules.specs.Layout.{lineAt, lineCount, marketPrice, capMark, priceCap}
+use Rattle.rules.specs.Fold.{five}
+use Rattle.rules.specs.Layout.{lineAt}
 use Rattle.rules.specs.Steps.{ends, stepCount, upperEnd, lowerEnd, price, flag, capped, paid, accredited, hedged}
 use Rattle.rules.specs.Cutting.{cutOf, flagWord, priceRow, prices, flags}
 use Rattle.rules.specs.Quantities.{operatingTotal, effectiveActual, actualIn}
 use Rattle.rules.specs.Payments.{stepOf, stepPrice, stepFlag, stepPaid}
 use Rattle.laws.specs.Folds.{sum-le, at-five, same-five}
-use Rattle.laws.specs.Accepted.{AcceptedDay, AcceptedLine, accepted-line-at}
+use Rattle.laws.specs.Accepted.{AcceptedLine}
 use Rattle.cutter.specs.Arrays.{bitAt, bits-at, padded-at, padded-length, rows-at}
-use Rattle.cutter.specs.Prices.{prices-at, prices-length, flags-at, flags-most, price-min}
+use Rattle.cutter.specs.Prices.{prices-at, prices-length, flags-at, flags-most}
 use Rattle.cutter.specs.Ends.{count-most}
-use Rattle.payments.specs.Sizes.{Sized}
 use Rattle.inputs.specs.Inputs.{marketOf, totalsOf, cappedAt, cappedIn, paidOn, paidIn, stepFrom, priceIn, flagIn}
 
 -- the parts of `stepOf`, with the cutter's rows
@@ -66,32 +63,3 @@ step-is d k j h l =
 pub actual-most : (w : List ℕ) → effectiveActual w ≤ operatingTotal w 4
 unfolding effectiveActual operatingTotal actualIn
 actual-most w = sum-le 5 _ _ (λ i l. omega arith)
-
--- prices within the limit
-pub price-most : (w : List ℕ) → AcceptedLine w → (s u : ℕ) → s < 5 → price w s u ≤ 10000000
-price-most w h s u l =
-    let b = h .bids s l in
-    rw (price-min w s u (b .count-least)) (b .price-most _ (omega (arith, b .count-least)))
-
-capped-by : (t : Bool) (p c : ℕ) → p ≤ 10000000 → cond t (min p c) p ≤ 10000000
-capped-by true p c h = omega arith
-capped-by false p c h = h
-
-five-most : (f : ℕ → ℕ) (b s : ℕ) → ((i : ℕ) → i < 5 → f i ≤ b) → at (five f) s ≤ b
-five-most f b zero h = h 0 (omega arith)
-five-most f b (suc zero) h = h 1 (omega arith)
-five-most f b (suc (suc zero)) h = h 2 (omega arith)
-five-most f b (suc (suc (suc zero))) h = h 3 (omega arith)
-five-most f b (suc (suc (suc (suc zero)))) h = h 4 (omega arith)
-five-most f b (suc (suc (suc (suc (suc s))))) h = omega arith
-
--- the step is within the limits
-pub step-sized : (d : List ℕ) → AcceptedDay d → (k j : ℕ) → k < lineCount d → upperEnd (lineAt d k) j ≤ 200000000 → Sized (stepOf d k j)
-unfolding stepOf stepPrice capped
-step-sized d a k j l u =
-    let h = accepted-line-at d a k l in
-    record {
-      upper = u;
-      prices = λ s. five-most _ 10000000 s (λ i q. capped-by (eqb (capMark d i) 1) _ (priceCap d) (price-most (lineAt d k) h i (upperEnd (lineAt d k) j) q));
-      markets = λ s. five-most (marketPrice d) 10000000 s (λ i q. a .market .price-most i q);
-    }
