@@ -1,5 +1,8 @@
 -- `payments::signed_money` meets its contract.
 use borrow.Author.Needs.{needs}
+use mathlib.Core.Path.{_∙_}
+use mir.Syntax.{w64}
+use mir.ValLaws.{toZ-ofZ}
 use Rattle.numbers.specs.Fives.{five-is}
 use Rattle.payments.specs.Amounts.{paymentOf}
 use Rattle.payments.proofs.signed_money.Statement.{statement}
@@ -24,11 +27,11 @@ returns : tie.Need-returns
 unfolding paymentOf
 returns c = 
     five-is (paymentOf (c .before .before .before .before .before .before .before .args .m))
-    (c .before .before .before .before .signed .ensures)
-    (c .before .before .before .signed2 .ensures)
-    (c .before .before .signed3 .ensures)
-    (c .before .signed4 .ensures)
-    (c .signed5 .ensures)
+    (toZ-ofZ w64 (c .before .before .before .before .signed .result) (record { sfits = c .before .before .before .before .signed .ok }) ∙ c .before .before .before .before .signed .ensures)
+    (toZ-ofZ w64 (c .before .before .before .signed2 .result) (record { sfits = c .before .before .before .signed2 .ok }) ∙ c .before .before .before .signed2 .ensures)
+    (toZ-ofZ w64 (c .before .before .signed3 .result) (record { sfits = c .before .before .signed3 .ok }) ∙ c .before .before .signed3 .ensures)
+    (toZ-ofZ w64 (c .before .signed4 .result) (record { sfits = c .before .signed4 .ok }) ∙ c .before .signed4 .ensures)
+    (toZ-ofZ w64 (c .signed5 .result) (record { sfits = c .signed5 .ok }) ∙ c .signed5 .ensures)
 
 pub signed-money-spec : {M : Type 1} → statement M
 signed-money-spec =
