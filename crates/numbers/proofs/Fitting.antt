@@ -12,10 +12,6 @@ use mir.Syntax.{w64}
 use mir.Val.{SFits, toZ, ofZ}
 use mir.ValLaws.{toZ-pos, toZ-ofZ}
 
--- a product of two numbers of at most a and b
-pub product-most : {x y : ℕ} (a b : ℕ) → x ≤ a → y ≤ b → x * y ≤ a * b
-product-most a b h k = mul-le-mul h k
-
 -- the quotient's whole part
 pub whole-most : (t d b : ℕ) → d ≤ b → t / b * d ≤ t
 whole-most t d b h = le-trans (mul-le-mul-left (t / b) h) (div-mul-le-self t b)
@@ -26,10 +22,6 @@ share-is t d b h =
     let e : t / b * d * b + t % b * d ≡ t * d =
     ap (λ (n : ℕ). n + t % b * d) (mul-right-comm (t / b) d b) ∙ sym (add-mul (t / b * b) (t % b) d) ∙ ap (λ (n : ℕ). n * d) (div-add-mod' t b) in
     sym (mul-add-div-right h (t / b * d) (t % b * d)) ∙ ap (λ (n : ℕ). n / b) e
-
--- a share is at most the whole
-pub share-most : (t d b : ℕ) → d ≤ b → t * d / b ≤ t
-share-most t d b h = div-le-of-le-mul b (le-trans (mul-le-mul-left t h) (native.Mathlib.Nat.le-of-eq (mul-comm t b)))
 
 -- the remainder's part
 pub rest-most : (t d b : ℕ) → 0 < b → b < 2 ^ 34 → d < 2 ^ 28 → t % b * d ≤ 2 ^ 62

@@ -1,2 +1,3 @@
--- Laws on rows of five, which the proofs over `rules` cite. The contracts of `numbers` cite arithmetic alone.
+-- Laws on rows of five and on shares, which proofs cite. The contracts of `numbers` cite arithmetic alone.
 pub mod Fives
+pub mod Shares

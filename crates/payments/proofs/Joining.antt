@@ -20,7 +20,7 @@ use Rattle.numbers.specs.Fives.{at-five, five-is, five-same}
 use Rattle.matching.specs.Ledgers.{matchRow}
 use Rattle.matching.specs.Balance.{matched-out}
 use Rattle.payments.specs.Sizes.{Sized, rate-most, revisedRate-most, fall-most, givenBack-most}
-use Rattle.payments.specs.Parts.{changeOn, initial-plus, initial-minus, revised-plus, revised-minus, modified-minus}
+use Rattle.payments.specs.Parts.{changeOn, initial-plus, initial-minus, revised-plus, revised-minus, modified-plus, modified-minus}
 use Rattle.payments.specs.Kinds.{revised-first, modified-first}
 use Rattle.payments.specs.Amounts.{onlyPaid, productIn, givenAt, plusOf, minusOf, differIn, differsOn}
 
@@ -91,9 +91,14 @@ minus-row x e f g =
     rw (g, e, f)
     (five-same (λ s. changeOn fall x s * rate x s) (λ s. mi (initial x s)) (λ s h. sym (initial-minus x s)))
 
-pub plus-same : (x : Step) → five (plusOf (initial x)) ≡ five (plusOf (revised x))
+-- what revised and modified pay
+pub revised-pays : (x : Step) → five (plusOf (initial x)) ≡ five (plusOf (revised x))
 unfolding plusOf
-plus-same x = five-same (λ s. pl (initial x s)) (λ s. pl (revised x s)) (λ s h. sym (revised-plus x s))
+revised-pays x = five-same (plusOf (initial x)) (plusOf (revised x)) (λ s h. sym (revised-plus x s))
+
+pub modified-pays : (x : Step) → five (plusOf (initial x)) ≡ five (plusOf (modified x))
+unfolding plusOf
+modified-pays x = five-same (plusOf (initial x)) (plusOf (modified x)) (λ s h. sym (modified-plus x s))
 
 -- where revised differs from initial
 differs-by : (a b : ℤ) → pl a ≡ pl b → eqb (mi a) (mi b) ≡ eqbZ a b

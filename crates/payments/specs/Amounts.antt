@@ -54,6 +54,11 @@ paymentOf m s = subℕ (at (m .plus) s) (at (m .minus) s)
 unfoldable pub moneySum : Money → Money → Money
 moneySum a b = record { plus = five (sumIn (a .plus) (b .plus)); minus = five (sumIn (a .minus) (b .minus)) }
 
+-- amounts that a signed number of 64 bits holds
+pub record Signable (m : Money) : Type 0 where
+  pub plus : (s : ℕ) → at (m .plus) s < 2 ^ 63
+  pub minus : (s : ℕ) → at (m .minus) s < 2 ^ 63
+
 -- 1 where "revised .. differs from its initial"
 unfoldable pub differsOn : Step → ℕ → ℕ
 differsOn x s = bit (not (eqbZ (revised x s) (initial x s)))
@@ -78,6 +83,14 @@ poolSum a b =
       falls = five (sumIn (a .falls) (b .falls));
       differs = five (sumIn (a .differs) (b .differs));
     }
+
+-- two pools whose sum fits
+pub record Addable (a b : SidePool) : Type 0 where
+  pub plus : (s : ℕ) → sumIn (a .plus) (b .plus) s < 2 ^ 64
+  pub minus : (s : ℕ) → sumIn (a .minus) (b .minus) s < 2 ^ 64
+  pub rises : (s : ℕ) → sumIn (a .rises) (b .rises) s < 2 ^ 64
+  pub falls : (s : ℕ) → sumIn (a .falls) (b .falls) s < 2 ^ 64
+  pub differs : (s : ℕ) → sumIn (a .differs) (b .differs) s < 2 ^ 32
 
 -- T, B and whether some revised differs, in schedule s
 unfoldable pub poolAt : SidePool → ℕ → Pool

@@ -9,12 +9,12 @@ use lib.Dec.{eqb, ltb}
 use lib.IntN.{ℤ, pos}
 use lib.Signed.{leZ}
 use Rattle.rules.specs.Fold.{at, before}
-use Rattle.rules.specs.Layout.{priceMost}
+use Rattle.rules.specs.Layout.{quantityMost, priceMost}
 use Rattle.rules.specs.Matching.{earlier, rise, fall}
 use Rattle.rules.specs.Payments.{Pool, onStep, rate, revisedRate, isPaid, givenBack, initial, revised, modified, finalPayment}
 use Rattle.rules.specs.declared.Step.{Step}
 use Rattle.laws.specs.Ints.{pl, mi, apart, eqZ, le-leZ}
-use Rattle.payments.specs.Sizes.{Sized, rate-most, givenBack-most}
+use Rattle.payments.specs.Sizes.{Sized, rate-most, rise-most, fall-most, givenBack-most}
 use Rattle.payments.specs.Parts.{changeOn, initial-plus, initial-minus, revised-plus, revised-minus, revised-most, modified-plus, modified-minus, takenBack, sharedTotal, final-plus, final-minus}
 
 -- initial of schedule 1 takes nothing back
@@ -53,7 +53,7 @@ pub paid-most : (x : Step) (claw s : ℕ) (p : Pool) → Sized x → pl (finalPa
 paid-most x claw s p z =
     rw (final-plus x claw s p, initial-plus x s) (mul-le-mul-left (changeOn rise x s) (rate-most x s z))
 
-initial-most : (x : Step) (s : ℕ) → Sized x → mi (initial x s) ≤ changeOn fall x s * priceMost
+pub initial-most : (x : Step) (s : ℕ) → Sized x → mi (initial x s) ≤ changeOn fall x s * priceMost
 initial-most x s z = rw (initial-minus x s) (mul-le-mul-left (changeOn fall x s) (rate-most x s z))
 
 modified-by : (t : Bool) (i d g n b : ℕ) → i ≡ cond t d 0 * n → g ≤ d * b → cond (eqb i 0) 0 g ≤ cond t d 0 * b
@@ -61,7 +61,7 @@ modified-by t zero d g n b e h = omega arith
 modified-by true (suc i) d g n b e h = rw (borrow.Author.Tests.ne-eqb (suc i) 0 (λ q. omega arith)) h
 modified-by false (suc i) d g n b e h = absurd (omega (arith, zero-mul n))
 
-modified-most : (x : Step) (s : ℕ) → Sized x → mi (modified x s) ≤ changeOn fall x s * priceMost
+pub modified-most : (x : Step) (s : ℕ) → Sized x → mi (modified x s) ≤ changeOn fall x s * priceMost
 unfolding changeOn
 modified-most x s z =
     rw (modified-minus x s)
@@ -114,4 +114,48 @@ unpaid x s h =
       final-none =
           λ claw p.
           nothing (finalPayment x claw s p) (final-plus x claw s p ∙ paid) (final-unpaid x claw s p taken revising modifying);
+    }
+
+-- a payment of at most b in size
+pub record Within (b : ℕ) (z : ℤ) : Type 0 where
+  pub paid : pl z ≤ b
+  pub taken : mi z ≤ b
+
+change-by : (t : Bool) (q b : ℕ) → q ≤ b → cond t q 0 ≤ b
+change-by true q b h = h
+change-by false q b h = omega arith
+
+pub rise-within : (x : Step) (s : ℕ) → Sized x → changeOn rise x s ≤ quantityMost
+unfolding changeOn
+rise-within x s z = change-by (isPaid x s) (rise (onStep x) s) quantityMost (omega (arith, rise-most x s, z .upper))
+
+pub fall-within : (x : Step) (s : ℕ) → Sized x → changeOn fall x s ≤ quantityMost
+unfolding changeOn
+fall-within x s z = change-by (isPaid x s) (fall (onStep x) s) quantityMost (omega (arith, fall-most x s, z .upper))
+
+pub final-within : (x : Step) (claw s : ℕ) (p : Pool) → Sized x → Within (quantityMost * priceMost) (finalPayment x claw s p)
+final-within x claw s p z =
+    record {
+      paid = omega (arith, paid-most x claw s p z, rise-within x s z);
+      taken = omega (arith, taken-most x claw s p z, fall-within x s z);
+    }
+
+pub initial-within : (x : Step) (s : ℕ) → Sized x → Within (quantityMost * priceMost) (initial x s)
+initial-within x s z =
+    record {
+      paid = omega (arith, initial-plus x s, mul-le-mul-left (changeOn rise x s) (rate-most x s z), rise-within x s z);
+      taken = omega (arith, initial-most x s z, fall-within x s z);
+    }
+
+pub revised-within : (x : Step) (s : ℕ) → Sized x → Within (quantityMost * priceMost) (revised x s)
+revised-within x s z =
+    let i = initial-within x s z in
+    record { paid = omega (arith, revised-plus x s, i .paid); taken = omega (arith, revised-most x s, i .taken) }
+
+pub modified-within : (x : Step) (s : ℕ) → Sized x → Within (quantityMost * priceMost) (modified x s)
+modified-within x s z =
+    let i = initial-within x s z in
+    record {
+      paid = omega (arith, modified-plus x s, i .paid);
+      taken = omega (arith, modified-most x s z, fall-within x s z);
     }

@@ -2,3 +2,4 @@
 pub mod Sums
 pub mod Sides
 pub mod Sizes
+pub mod Lines

@@ -1,7 +1,8 @@
 -- `numbers::share` meets its contract: neither part of the quotient passes 64 bits, and they add up to the whole.
 use borrow.Author.Needs.{needs}
 use native.Mathlib.Omega.{arith}
-use Rattle.numbers.proofs.Fitting.{whole-most, share-is, share-most, rest-most}
+use Rattle.numbers.specs.Shares.{share-most}
+use Rattle.numbers.proofs.Fitting.{whole-most, share-is, rest-most}
 use Rattle.numbers.proofs.share.Statement.{statement}
 use Rattle.numbers.proofs.share.Tie as tie
 

@@ -5,7 +5,7 @@ use Rattle.rules.specs.Matching.{rise, fall}
 use Rattle.matching.specs.Ledgers.{matchRow}
 use Rattle.payments.specs.Parts.{changeOn}
 use Rattle.payments.specs.Amounts.{stepPool}
-use Rattle.payments.proofs.Joining.{change-row, plus-row, plus-same, minus-row, wide-row, differ-row}
+use Rattle.payments.proofs.Joining.{change-row, plus-row, revised-pays, minus-row, wide-row, differ-row}
 use Rattle.payments.proofs.step_pool.Statement.{statement}
 use Rattle.payments.proofs.step_pool.Tie as tie
 
@@ -22,7 +22,7 @@ returns c =
     let up = change-row x rise c₀ (c .before .before .before .before .before .before .before .before .before .before .rises .ensures) (c .before .before .before .before .before .before .before .before .before .only-paid .ensures) in
     let down = change-row x fall c₀ (c .before .before .before .before .before .before .before .before .falls .ensures) (c .before .before .before .before .before .before .before .only-paid2 .ensures) in
     let minus = c .before .before .before .before .before .revised-minus .ensures in
-    let plus = plus-row x up rate₀ (c .before .before .before .before .products .ensures) ∙ plus-same x in
+    let plus = plus-row x up rate₀ (c .before .before .before .before .products .ensures) ∙ revised-pays x in
     let rises = wide-row (changeOn rise x) up (c .before .before .before .widened .ensures) in
     let falls = wide-row (changeOn fall x) down (c .before .before .widened2 .ensures) in
     let differs = differ-row x minus (minus-row x down rate₀ (c .before .products2 .ensures)) (c .differing .ensures) in
