@@ -38,25 +38,32 @@ sum-fewer m (suc n) f h =
     [ yes l ↦ let e : m ≡ suc n = omega arith in rw e (omega arith)
     | no g ↦ let q = r (omega arith) in rw (sum-suc n f) (omega arith) ]
 
--- a figure of the steps, added up over any line of the day, is at most b
-pub Most : (Step → ℕ → ℕ) → List ℕ → ℕ → Type 0
-Most q d b = (k s : ℕ) → k < lineCount d → s < 5 → lineSum q d s k ≤ b
+-- a paid rise is at most C(s), and a paid fall at most C(s-1)
+cond-most : (t : Bool) (c : ℕ) → cond t c 0 ≤ c
+cond-most true c = omega arith
+cond-most false c = omega arith
+
+rise-le : (x : Step) (s : ℕ) → changeOn rise x s ≤ at (onStep x) s
+unfolding changeOn rise
+rise-le x s = omega (arith, cond-most (isPaid x s) (at (onStep x) s - earlier (onStep x) s))
+
+fall-le : (x : Step) (s : ℕ) → changeOn fall x s ≤ earlier (onStep x) s
+unfolding changeOn fall
+fall-le x s = omega (arith, cond-most (isPaid x s) (earlier (onStep x) s - at (onStep x) s))
 
 module _ (d : List ℕ) (a : AcceptedDay d) where
   pub rises-most : (k s : ℕ) → k < lineCount d → s < 5 → lineSum (changeOn rise) d s k ≤ quantityMost
-  unfolding lineSum stepAt changeOn rise
+  unfolding lineSum stepAt
   rises-most k s l i =
       let w = lineAt d k in
-      let r = sum-le (stepCount w) _ (λ j. at (onStep (stepOf d k j)) s)
-            (λ j h. omega (arith, change-by d a k l (isPaid (stepOf d k j) s) (at (onStep (stepOf d k j)) s - earlier (onStep (stepOf d k j)) s))) in
+      let r = sum-le (stepCount w) (stepAt (changeOn rise) d s k) (λ j. at (onStep (stepOf d k j)) s) (λ j h. rise-le (stepOf d k j) s) in
       omega (arith, constrained-most d a k l s i, most-limit w (line d a k l))
 
   pub falls-most : (k s : ℕ) → k < lineCount d → s < 5 → lineSum (changeOn fall) d s k ≤ quantityMost
-  unfolding lineSum stepAt changeOn fall
+  unfolding lineSum stepAt
   falls-most k s l i =
       let w = lineAt d k in
-      let r = sum-le (stepCount w) _ (λ j. earlier (onStep (stepOf d k j)) s)
-            (λ j h. omega (arith, change-by d a k l (isPaid (stepOf d k j) s) (earlier (onStep (stepOf d k j)) s - at (onStep (stepOf d k j)) s))) in
+      let r = sum-le (stepCount w) (stepAt (changeOn fall) d s k) (λ j. earlier (onStep (stepOf d k j)) s) (λ j h. fall-le (stepOf d k j) s) in
       omega (arith, earlier-most d a k l s i, most-limit w (line d a k l))
 
   pub paid-most : (k s : ℕ) → k < lineCount d → s < 5 → lineSum paidIn d s k ≤ quantityMost * priceMost

@@ -6,7 +6,7 @@ use rules::Step;
 
 ghost use mathlib.Core.Path.{_≡_};
 ghost use Prim.Native.Nat.{_<_};
-ghost use Rattle.rules.specs.Layout.{lineCount, lineAt};
+ghost use Rattle.rules.specs.Layout.{lineCount, lineAt, side};
 ghost use Rattle.rules.specs.Steps.{stepCount};
 ghost use Rattle.laws.specs.Accepted.{AcceptedDay};
 ghost use Rattle.inputs.specs.Inputs.{marketOf};
@@ -14,7 +14,7 @@ ghost use Rattle.payments.specs.Sizes.{Sized};
 ghost use Rattle.payments.specs.Amounts.{moneyOf, finalOn};
 ghost use Rattle.pools.specs.Sums.{poolTo, moneyTo};
 ghost use Rattle.pools.specs.Sides.{stepPoolAt, linePool, sidePart, sidePool};
-ghost use Rattle.pools.specs.Lines.{stepMoney, noPool, poolIn, PoolFor, Payable, LineOf};
+ghost use Rattle.pools.specs.Lines.{stepMoney, noPool, PoolFor, Payable};
 
 // What a line is paid in all, and how many steps it has.
 pub struct LinePaid {
@@ -60,41 +60,41 @@ fn line_pool(day: &[u8], k: usize, m: Market) -> SidePool
 }
 
 // What line k adds to the pool of a side.
-fn side_part(day: &[u8], k: usize, m: Market, side: u32) -> SidePool
+fn side_part(day: &[u8], k: usize, m: Market, sd: u32) -> SidePool
     requires { ⌜ (AcceptedDay (now day)) × (k < lineCount (now day)) × (m ≡ marketOf (now day)) ⌝ }
-    ensures { λ r. ⌜ r ≡ sidePart (now (day .entry)) side k ⌝ }
+    ensures { λ r. ⌜ r ≡ sidePart (now (day .entry)) sd k ⌝ }
 {
     let line = line_of(day, k);
-    if bytes_le::word_at(line, 8) != side {
+    if bytes_le::word_at(line, 8) != sd {
         return empty_pool();
     }
     line_pool(day, k, m)
 }
 
 // The pool of a side.
-pub fn side_pool(day: &[u8], m: Market, side: u32) -> SidePool
+pub fn side_pool(day: &[u8], m: Market, sd: u32) -> SidePool
     requires { ⌜ (AcceptedDay (now day)) × (m ≡ marketOf (now day)) ⌝ }
-    ensures { λ r. ⌜ r ≡ sidePool (now (day .entry)) side ⌝ }
+    ensures { λ r. ⌜ r ≡ sidePool (now (day .entry)) sd ⌝ }
 {
     let n = line_count(day);
     let mut pool = empty_pool();
     let mut k = 0;
     while k < n {
-        pool = pool_add(pool, side_part(day, k, m, side));
+        pool = pool_add(pool, side_part(day, k, m, sd));
         k += 1;
     }
     pool
 }
 
 // The pool of a side, or none where clawback is off: no payment reads it then.
-pub fn pool_for(day: &[u8], m: Market, side: u32) -> SidePool
+pub fn pool_for(day: &[u8], m: Market, sd: u32) -> SidePool
     requires { ⌜ (AcceptedDay (now day)) × (m ≡ marketOf (now day)) ⌝ }
-    ensures { λ r. ⌜ PoolFor (now (day .entry)) side r ⌝ }
+    ensures { λ r. ⌜ PoolFor (now (day .entry)) sd r ⌝ }
 {
     if m.clawback == 0 {
         return empty_pool();
     }
-    side_pool(day, m, side)
+    side_pool(day, m, sd)
 }
 
 // What a step is paid in the end.
@@ -110,7 +110,7 @@ fn step_money(x: Step, claw: u32, p: SidePool) -> Money
 
 // What line k is paid, with the pool of its side.
 pub fn line_paid(day: &[u8], k: usize, m: Market, p: SidePool) -> LinePaid
-    requires { ⌜ (AcceptedDay (now day)) × (k < lineCount (now day)) × (m ≡ marketOf (now day)) × (PoolFor (now day) (LineOf.side (now day) k) p) ⌝ }
+    requires { ⌜ (AcceptedDay (now day)) × (k < lineCount (now day)) × (m ≡ marketOf (now day)) × (PoolFor (now day) (side (lineAt (now day) k)) p) ⌝ }
     ensures { λ r. ⌜ (r .count ≡ stepCount (lineAt (now (day .entry)) k)) × (r .money ≡ moneyTo (stepCount (lineAt (now (day .entry)) k)) (stepMoney (now (day .entry)) k)) ⌝ }
 {
     let line = line_of(day, k);

@@ -1,0 +1,22 @@
+-- `pools::pool_for` meets its contract.
+use denote.Ref.{now}
+use borrow.Author.Needs.{needs}
+use Rattle.rules.specs.Fold.{before}
+use Rattle.pools.proofs.Laws.{pool-off, pool-on, market-claw}
+use Rattle.pools.proofs.pool_for.Statement.{statement}
+use Rattle.pools.proofs.pool_for.Tie as tie
+
+returns : tie.Need-returns
+returns c = pool-off _ _ _ _ (market-claw (now (c .before .before .before .before .args .day)) _ (c .before .before .before .before .pre .1)) (c .before .if1 .taken)
+
+returns-2 : tie.Need-returns-2
+returns-2 c = pool-on _ _ _ (c .side-pool .ensures)
+
+pub pool-for-spec : {M : Type 1} → statement M
+pool-for-spec =
+    tie.close
+    (tie.spec
+    (λ c κs. search needs)
+    returns
+    (λ c κs. search needs)
+    returns-2)
