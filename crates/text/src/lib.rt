@@ -153,8 +153,8 @@ pub fn put_line(
     requires { ⌜ at + 177 ≤ length (now out) ⌝ }
     ensures { λ r. ⌜ Written 177 (now (out .entry)) at (lineTextOf participant point side steps (atZ payments)) r (now (out .exit)) ⌝ }
 {
-    let p = put_line_start(out, at, participant, point, side, steps, payments);
-    put_byte(out, p, b'\n')
+    let end = put_line_start(out, at, participant, point, side, steps, payments);
+    put_byte(out, end, b'\n')
 }
 
 // The report's first line, of n lines.
