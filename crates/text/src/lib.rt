@@ -4,7 +4,7 @@ ghost use Prim.Native.Nat.{_+_, _≤_};
 ghost use mathlib.Core.List.{[], _∷_, _++_};
 ghost use lib.ListN.{length};
 ghost use Rattle.rules.specs.Fold.{atZ};
-ghost use Rattle.rules.specs.Report.{decimal, signedDecimal, space, fiveNumbers, sideText, refusedLine};
+ghost use Rattle.rules.specs.Report.{decimal, signedDecimal, space, lineFeed, fiveNumbers, sideText, refusedLine};
 ghost use Rattle.text.specs.Put.{Written};
 ghost use Rattle.text.specs.Lines.{numbers, lineIds, sideSteps, lineStart, lineTextOf, heading, totalsText};
 use bytes_le::bits;
@@ -157,14 +157,22 @@ pub fn put_line(
     put_byte(out, end, b'\n')
 }
 
+// A byte string, a number and the line's end.
+fn put_numbered(out: &mut [u8], at: usize, text: &[u8], n: u32) -> usize
+    requires { ⌜ at + length (now text) + 21 ≤ length (now out) ⌝ }
+    ensures { λ r. ⌜ Written (length (now (text .entry)) + 20 + 1) (now (out .entry)) at (now (text .entry) ++ decimal n ++ lineFeed) r (now (out .exit)) ⌝ }
+{
+    let a = put_bytes(out, at, text);
+    let b = put_decimal(out, a, n as u64);
+    put_byte(out, b, b'\n')
+}
+
 // The report's first line, of n lines.
 pub fn put_heading(out: &mut [u8], at: usize, n: u32) -> usize
     requires { ⌜ at + 25 ≤ length (now out) ⌝ }
     ensures { λ r. ⌜ Written 25 (now (out .entry)) at (heading n) r (now (out .exit)) ⌝ }
 {
-    let a = put_bytes(out, at, b"day ");
-    let b = put_decimal(out, a, n as u64);
-    put_byte(out, b, b'\n')
+    put_numbered(out, at, b"day ", n)
 }
 
 // The lines of the totals and the adjusted totals.
@@ -183,7 +191,5 @@ pub fn put_refused(out: &mut [u8], at: usize, number: u32) -> usize
     requires { ⌜ at + 29 ≤ length (now out) ⌝ }
     ensures { λ r. ⌜ Written 29 (now (out .entry)) at (refusedLine number) r (now (out .exit)) ⌝ }
 {
-    let a = put_bytes(out, at, b"refused ");
-    let b = put_decimal(out, a, number as u64);
-    put_byte(out, b, b'\n')
+    put_numbered(out, at, b"refused ", number)
 }
