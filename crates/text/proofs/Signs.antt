@@ -6,7 +6,6 @@ use mathlib.Core.Path.{_≡_, _∙_, ap}
 use mathlib.Core.List.{List, [], _∷_, _++_}
 use lib.ListN.{getD}
 use lib.IntN.{ℤ, pos}
-use lib.Signed.{mag}
 use mir.Syntax.{w64}
 use mir.Val.{Val, SFits, toZ, ofZ}
 use mir.Facts.{toZ-ofZ}
@@ -14,7 +13,6 @@ use denote.Shadow.{shadow}
 use denote.Laws.{Is}
 use denote.Array.{Array, each}
 use denote.Signed.{SInt}
-use Rattle.rules.specs.Fold.{five}
 use Rattle.rules.specs.Book.{bits64}
 use Rattle.rules.specs.Report.{decimal, signedDecimal}
 use Rattle.text.specs.Put.{Written, then, written-as, written-within}
@@ -50,11 +48,3 @@ signed-minus {b = b} z f q h v w =
     let e : b ≡ bits64 z = q ∙ ap bits64 (toZ-ofZ f) in
     let h′ : 2 ^ 63 ≤ bits64 z = rw e at h in
     written-as (ap (λ (x : ℕ). (45 ∷ []) ++ decimal (18446744073709551615 - x + 1)) e ∙ signed-down z f h′) (then v w)
-
--- a call's signed result, read back
-pub read-back : {z y : ℤ} → mag z < 2 ^ 63 → z ≡ y → toZ w64 (ofZ w64 z) ≡ y
-read-back f e = toZ-ofZ (record { sfits = f }) ∙ e
-
--- five numbers one by one
-pub five-same : (f : ℕ → ℤ) {a b c d e : ℤ} → a ≡ f 0 → b ≡ f 1 → c ≡ f 2 → d ≡ f 3 → e ≡ f 4 → _≡_ {A = List ℤ} (a ∷ b ∷ c ∷ d ∷ e ∷ []) (five f)
-five-same f p q r s t = rw (p, q, r, s, t)

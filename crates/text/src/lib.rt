@@ -1,22 +1,15 @@
 // Decimal numbers and the lines of the report (document 01, K10), written into lent bytes from a place on.
 // Each function answers the place after its text. `Written` of specs/ says what stands in the bytes then.
-ghost use mathlib.Core.Path.{_≡_};
-ghost use Prim.Native.Nat.{_+_, _*_, _≤_};
+ghost use Prim.Native.Nat.{_+_, _≤_};
 ghost use mathlib.Core.List.{[], _∷_, _++_};
 ghost use lib.ListN.{length};
-ghost use Rattle.rules.specs.Fold.{joined, five, atZ};
-ghost use Rattle.rules.specs.Layout.{word};
-ghost use Rattle.rules.specs.Refusals.{bookLength};
-ghost use Rattle.rules.specs.Report.{decimal, signedDecimal, space, fiveNumbers, sideText, refusedLine};
+ghost use Rattle.rules.specs.Fold.{atZ};
+ghost use Rattle.rules.specs.Report.{decimal, signedDecimal, space, lineFeed, fiveNumbers, sideText, refusedLine};
 ghost use Rattle.text.specs.Put.{Written};
 ghost use Rattle.text.specs.Lines.{numbers, lineIds, sideSteps, lineStart, lineTextOf, heading, totalsText};
-ghost use Rattle.text.specs.BookText.{moneysAt, entryAt, entryText, bookText, reportMost, reportOf};
 use bytes_le::bits;
 use bytes_le::signed_at;
 use bytes_le::word_at;
-
-// The bytes that the longest report takes.
-pub const REPORT_MOST: usize = 25 + 177 * 64 + 235;
 
 // One byte.
 pub fn put_byte(out: &mut [u8], at: usize, b: u8) -> usize
@@ -160,8 +153,18 @@ pub fn put_line(
     requires { ⌜ at + 177 ≤ length (now out) ⌝ }
     ensures { λ r. ⌜ Written 177 (now (out .entry)) at (lineTextOf participant point side steps (atZ payments)) r (now (out .exit)) ⌝ }
 {
-    let p = put_line_start(out, at, participant, point, side, steps, payments);
-    put_byte(out, p, b'\n')
+    let end = put_line_start(out, at, participant, point, side, steps, payments);
+    put_byte(out, end, b'\n')
+}
+
+// A byte string, a number and the line's end.
+fn put_numbered(out: &mut [u8], at: usize, text: &[u8], n: u32) -> usize
+    requires { ⌜ at + length (now text) + 21 ≤ length (now out) ⌝ }
+    ensures { λ r. ⌜ Written (length (now (text .entry)) + 20 + 1) (now (out .entry)) at (now (text .entry) ++ decimal n ++ lineFeed) r (now (out .exit)) ⌝ }
+{
+    let a = put_bytes(out, at, text);
+    let b = put_decimal(out, a, n as u64);
+    put_byte(out, b, b'\n')
 }
 
 // The report's first line, of n lines.
@@ -169,9 +172,7 @@ pub fn put_heading(out: &mut [u8], at: usize, n: u32) -> usize
     requires { ⌜ at + 25 ≤ length (now out) ⌝ }
     ensures { λ r. ⌜ Written 25 (now (out .entry)) at (heading n) r (now (out .exit)) ⌝ }
 {
-    let a = put_bytes(out, at, b"day ");
-    let b = put_decimal(out, a, n as u64);
-    put_byte(out, b, b'\n')
+    put_numbered(out, at, b"day ", n)
 }
 
 // The lines of the totals and the adjusted totals.
@@ -190,89 +191,5 @@ pub fn put_refused(out: &mut [u8], at: usize, number: u32) -> usize
     requires { ⌜ at + 29 ≤ length (now out) ⌝ }
     ensures { λ r. ⌜ Written 29 (now (out .entry)) at (refusedLine number) r (now (out .exit)) ⌝ }
 {
-    let a = put_bytes(out, at, b"refused ");
-    let b = put_decimal(out, a, number as u64);
-    put_byte(out, b, b'\n')
-}
-
-// Five signed numbers, `step` bytes apart, the first at byte `at`.
-fn five_at(b: &[u8], at: usize, step: usize) -> [i64; 5]
-    requires { ⌜ at + 4 * step + 8 ≤ length (now b) ⌝ }
-    ensures { λ r. ⌜ r ≡ five (moneysAt (now (b .entry)) at step) ⌝ }
-{
-    [
-        signed_at(b, at),
-        signed_at(b, at + step),
-        signed_at(b, at + 2 * step),
-        signed_at(b, at + 3 * step),
-        signed_at(b, at + 4 * step),
-    ]
-}
-
-// The line of a book's entry k.
-fn put_entry(out: &mut [u8], at: usize, book: &[u8], k: usize) -> usize
-    requires { ⌜ (at + 177 ≤ length (now out)) × (entryAt k + 56 ≤ length (now book)) ⌝ }
-    ensures { λ r. ⌜ Written 177 (now (out .entry)) at (entryText (now (book .entry)) k) r (now (out .exit)) ⌝ }
-{
-    let e = 96 + 56 * k;
-    let payments = five_at(book, e + 16, 8);
-    put_line(
-        out,
-        at,
-        word_at(book, e),
-        word_at(book, e + 4),
-        word_at(book, e + 8),
-        word_at(book, e + 12),
-        payments,
-    )
-}
-
-// The lines of a book's first n entries.
-fn put_entries(out: &mut [u8], at: usize, book: &[u8], n: usize) -> usize
-    requires { ⌜ (at + 177 * n ≤ length (now out)) × (bookLength n ≤ length (now book)) ⌝ }
-    ensures { λ r. ⌜ Written (177 * n) (now (out .entry)) at (joined n (entryText (now (book .entry)))) r (now (out .exit)) ⌝ }
-{
-    let mut p = at;
-    let mut k = 0;
-    while k < n {
-        p = put_entry(out, p, book, k);
-        k += 1;
-    }
-    p
-}
-
-// The report of a book.
-fn put_book(out: &mut [u8], book: &[u8], n: u32) -> usize
-    requires { ⌜ (reportMost ≤ length (now out)) × (n ≡ word (now book) 0) × (n ≤ 64) × (bookLength n ≤ length (now book)) ⌝ }
-    ensures { λ r. ⌜ Written reportMost (now (out .entry)) 0 (bookText (now (book .entry))) r (now (out .exit)) ⌝ }
-{
-    let a = put_heading(out, 0, n);
-    let b = put_entries(out, a, book, n as usize);
-    put_totals(out, b, five_at(book, 16, 16), five_at(book, 24, 16))
-}
-
-// The report: of a refusal where the number isn't 0, else of the book. It answers how many bytes it put, and puts none where
-// fewer than `REPORT_MOST` are lent or the book is none.
-pub fn report(number: u32, book: &[u8], out: &mut [u8]) -> usize
-    ensures { λ r. do
-      lent ← ⟦out.len()⟧ .entry
-      ⌜ Written lent (now (out .entry)) 0 (reportOf number (now (book .entry)) lent) r (now (out .exit)) ⌝ }
-{
-    if out.len() < REPORT_MOST {
-        return 0;
-    }
-    if number != 0 {
-        return put_refused(out, 0, number);
-    }
-    if book.len() < 96 {
-        return 0;
-    }
-    let n = word_at(book, 0);
-    if n > 64 {
-        return 0;
-    }
-    if book.len() < 96 + 56 * n as usize {
-        return 0;
-    }
-    put_book(out, book, n)
+    put_numbered(out, at, b"refused ", number)
 }

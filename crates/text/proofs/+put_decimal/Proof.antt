@@ -31,12 +31,7 @@ returns t c =
     let c2 = c1 .before .before in
     written-within (written-as (sym (decimal-one _ (c2 .if1 .taken))) (c1 .put-byte .ensures)) (decimal-most _)
 
--- the last digit has room
-last-requires : (t : ℕ) → put-decimal-lts.Need-put-byte-requires-2 (put-byte.Asked, put-byte.Learnt, below t, put-decimal.Post) (given t) put-decimal.Post
-last-requires t c κs =
-    let c1 = c .before .before .before .before .before .before .before in
-    omega (arith, decimal-tenth (c1 .args .v) (c1 .fits .v .fits))
-
+-- the digits before the last, and the last
 returns-2 : (t : ℕ) → put-decimal-lts.Need-returns-2 (put-byte.Asked, put-byte.Learnt, below t, put-decimal.Post) (given t) put-decimal.Post
 returns-2 t c =
     let c1 = c .before .before in
@@ -46,6 +41,12 @@ returns-2 t c =
     written-within
     (written-as (sym (decimal-last _ (c4 .fits .v .fits) (c3 .if1 .left))) (then (c2 .put-decimal .ensures) (c1 .put-byte2 .ensures)))
     (decimal-most _)
+
+-- the last digit has room
+last-requires : (t : ℕ) → put-decimal-lts.Need-put-byte-requires-2 (put-byte.Asked, put-byte.Learnt, below t, put-decimal.Post) (given t) put-decimal.Post
+last-requires t c κs =
+    let c1 = c .before .before .before .before .before .before .before in
+    omega (arith, decimal-tenth (c1 .args .v) (c1 .fits .v .fits))
 
 pub +put-decimal-spec : {M : Type 1} → statement M
 +put-decimal-spec = close μ-put-decimal λ t. put-decimal-lts.spec (put-byte.Asked, put-byte.Learnt, below t, put-decimal.Post)

@@ -1,9 +1,9 @@
--- `text::report` meets its contract: by its cases.
+-- `report::report` meets its contract: by its cases.
 use borrow.Author.Needs.{needs}
 use Rattle.text.specs.Put.{written-as, written-wider, written-nothing}
-use Rattle.text.specs.BookText.{reportMost, report-short, report-refused, report-many, report-none, report-book}
-use Rattle.text.proofs.report.Statement.{statement}
-use Rattle.text.proofs.report.Tie as tie
+use Rattle.report.specs.BookText.{reportMost, report-short, report-refused, report-many, report-none, report-book}
+use Rattle.report.proofs.report.Statement.{statement}
+use Rattle.report.proofs.report.Tie as tie
 
 returns : tie.Need-returns
 returns c = written-nothing _ _ (report-short _ _ _ (c .if1 .taken))

@@ -1,13 +1,13 @@
--- `text::five_at` meets its contract: each number is read back from its bits.
+-- `report::five_at` meets its contract: each number is read back from its bits.
 use native.Mathlib.Omega.{arith}
 use borrow.Author.Needs.{needs}
 use Prim.Native.Nat.{_+_, _*_}
 use mathlib.Core.Path.{_≡_, _∙_, ap}
 use denote.Ref.{now}
-use Rattle.text.specs.BookText.{moneyAt, moneysAt}
-use Rattle.text.proofs.Signs.{read-back, five-same}
-use Rattle.text.proofs.five_at.Statement.{statement}
-use Rattle.text.proofs.five_at.Tie as tie
+use Rattle.report.specs.BookText.{moneyAt, moneysAt}
+use Rattle.report.proofs.Signs.{read-back, five-same}
+use Rattle.report.proofs.five_at.Statement.{statement}
+use Rattle.report.proofs.five_at.Tie as tie
 
 returns : tie.Need-returns
 returns c =

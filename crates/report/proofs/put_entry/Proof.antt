@@ -1,10 +1,10 @@
--- `text::put_entry` meets its contract: what is read is the entry, and the line is put.
+-- `report::put_entry` meets its contract: what is read is the entry, and the line is put.
 use borrow.Author.Needs.{needs}
 use denote.Ref.{now}
 use Rattle.text.specs.Put.{written-as}
-use Rattle.text.specs.BookText.{entry-is}
-use Rattle.text.proofs.put_entry.Statement.{statement}
-use Rattle.text.proofs.put_entry.Tie as tie
+use Rattle.report.specs.BookText.{entry-is}
+use Rattle.report.proofs.put_entry.Statement.{statement}
+use Rattle.report.proofs.put_entry.Tie as tie
 
 returns : tie.Need-returns
 returns c =

@@ -1,11 +1,11 @@
--- `text::put_book` meets its contract: the texts of its three calls, one after another.
+-- `report::put_book` meets its contract: the texts of its three calls, one after another.
 use borrow.Author.Needs.{needs}
 use Prim.Native.Nat.{_+_, _*_}
 use denote.Ref.{now}
 use Rattle.text.specs.Put.{then, written-as, written-wider}
-use Rattle.text.specs.BookText.{reportMost, book-is}
-use Rattle.text.proofs.put_book.Statement.{statement}
-use Rattle.text.proofs.put_book.Tie as tie
+use Rattle.report.specs.BookText.{reportMost, book-is}
+use Rattle.report.proofs.put_book.Statement.{statement}
+use Rattle.report.proofs.put_book.Tie as tie
 
 returns : tie.Need-returns
 returns c =

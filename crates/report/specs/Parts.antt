@@ -14,7 +14,7 @@ use Rattle.rules.specs.Layout.{word}
 use Rattle.rules.specs.Book.{le, bits64, signedBytes}
 use Rattle.laws.specs.Folds.{joined-suc, joined-length}
 use Rattle.bytes_le.specs.Wide.{longWord, signedOf}
-use Rattle.text.specs.BookText.{moneyAt}
+use Rattle.report.specs.BookText.{moneyAt}
 
 -- t stands in l from place i on
 pub record Part (l : List ℕ) (i : ℕ) (t : List ℕ) : Type 0 where

@@ -1,14 +1,14 @@
--- `text::put_entries` meets its contract: after k turns the first k lines are put.
+-- `report::put_entries` meets its contract: after k turns the first k lines are put.
 use native.Mathlib.Omega.{arith}
 use borrow.Author.Needs.{needs}
 use Prim.Native.Nat.{_*_, _-_, _≤_}
 use mathlib.Core.Path.{_≡_}
 use lib.ListN.{length}
 use Rattle.rules.specs.Fold.{joined}
 use Rattle.text.specs.Put.{Written, row-none, row-more}
-use Rattle.text.specs.BookText.{entryText}
-use Rattle.text.proofs.put_entries.Statement.{statement}
-use Rattle.text.proofs.put_entries.Tie as tie
+use Rattle.report.specs.BookText.{entryText}
+use Rattle.report.proofs.put_entries.Statement.{statement}
+use Rattle.report.proofs.put_entries.Tie as tie
 
 abbrev Inv-loop : tie.InvT-loop
 Inv-loop out₀ at book n p₀ k₀ out p k = (k ≤ n) × (length out ≡ length out₀) × (Written (177 * k) out₀ at (joined k (entryText book)) p out)

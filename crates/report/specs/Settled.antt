@@ -20,9 +20,9 @@ use Rattle.rules.specs.Book.{le, bits64, signedBytes, wordBytes, bookHeader, to
 use Rattle.rules.specs.Report.{totalText, adjustedText, numberAfter, fiveNumbers, paymentOf, lineText, settledText, refusedLine, reportText}
 use Rattle.laws.specs.Folds.{joined-none, joined-suc, joined-length, refuse-false, orElse-zero, orElse-suc}
 use Rattle.laws.specs.Accepted.{accepted-day}
 use Rattle.text.specs.Lines.{lineTextOf, heading, totalsText, line-of}
-use Rattle.text.specs.BookText.{moneysAt, bookTotal, bookAdjusted, entryAt, entryText, bookText, reportMost, reportOf, report-refused, report-book}
-use Rattle.text.specs.Parts.{Part, part-left, part-right, part-in, part-at, part-joined, le-length, word-back, money-back}
+use Rattle.report.specs.BookText.{moneysAt, bookTotal, bookAdjusted, entryAt, entryText, bookText, reportMost, reportOf, report-refused, report-book}
+use Rattle.report.specs.Parts.{Part, part-left, part-right, part-in, part-at, part-joined, le-length, word-back, money-back}
 
 -- what the day's book holds fits its words and signed numbers
 pub record InRange (d : List ℕ) : Type 0 where

@@ -1,0 +1,4 @@
+-- The report read off a book's bytes, and why it is the day's report.
+pub mod BookText
+pub mod Parts
+pub mod Settled
