@@ -1,6 +1,6 @@
 //! The program: reports of days and lines, and generated ones to report on.
 
-use reference::generate::{damaged_day, damaged_line, line, valid_day};
+use reference::generate::{damaged_day, damaged_line, edge_days, line, valid_day};
 use reference::k10::k10;
 use reference::pack;
 use reference::refusal::day_number;
@@ -13,6 +13,7 @@ const USAGE: &str = "usage: reference settle|steps < DAY
        reference day SEED valid|damaged
        reference days SEED COUNT valid|damaged|mixed
        reference lines SEED COUNT
+       reference edges
        reference expect settle|steps|cut|number < PACK
        reference k10";
 
@@ -37,6 +38,11 @@ fn main() -> ExitCode {
 fn run(arguments: &[&str], out: &mut impl Write) -> io::Result<bool> {
     match *arguments {
         ["k10"] => out.write_all(&k10())?,
+        ["edges"] => {
+            for day in edge_days() {
+                pack::write(out, &day)?;
+            }
+        }
         ["expect", kind] => return expect(kind, out),
         [kind] => return report(kind, out),
         ["day", seed, kind] => {

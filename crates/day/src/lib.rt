@@ -112,8 +112,8 @@ pub fn line_of(day: &[u8], k: usize) -> &[u8]
     requires { ⌜ (k < 64) × (64 + 660 * (k + 1) ≤ length (now day)) ⌝ }
     ensures { λ r. ⌜ now r ≡ lineAt (now (day .entry)) k ⌝ }
 {
-    let from = 64 + 660 * k;
-    &day[from..from + 660]
+    let start = 64 + 660 * k;
+    &day[start..start + 660]
 }
 
 // Whether two lines have equal participant, point and side.

@@ -2,12 +2,14 @@
 
 mod day_faults;
 mod draw;
+mod edges;
 mod line_faults;
 mod random;
 
 use crate::layout::*;
 use day_faults::{line_mut, line_with_own_key, DAY_FAULTS};
 use draw::{draw_day, draw_line, Scale};
+pub use edges::edge_days;
 use line_faults::LINE_FAULTS;
 use random::Random;
 

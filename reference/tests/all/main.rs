@@ -1,6 +1,7 @@
 //! Tests of the reference implementation. Expected figures are those of document 01 and the functional design.
 
 mod figures;
+mod kept;
 mod laws;
 mod programs;
 mod reach;

@@ -7,7 +7,7 @@ use std::io::Write;
 use std::process::{Command, Stdio};
 
 /// Standard output for the arguments and standard input.
-fn run(arguments: &[&str], input: &[u8]) -> Vec<u8> {
+pub fn run(arguments: &[&str], input: &[u8]) -> Vec<u8> {
     let mut child = Command::new(env!("CARGO_BIN_EXE_reference"))
         .args(arguments)
         .stdin(Stdio::piped())
