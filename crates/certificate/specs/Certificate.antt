@@ -9,22 +9,16 @@ use lib.ListN.{getD}
 use lib.Dec.{ltb}
 use lib.IntN.{ℤ, pos}
 use lib.Signed.{ltZ}
-use Rattle.rules.specs.Fold.{sumTo, sumZ, at, before}
+use Rattle.rules.specs.Fold.{sumTo, sumZ, at}
 use Rattle.rules.specs.Layout.{word, lineCount, lineAt}
 use Rattle.rules.specs.Steps.{greatestBreak}
 use Rattle.rules.specs.Quantities.{pricingTotal, operatingTotal}
 use Rattle.rules.specs.Matching.{rise, fall}
 use Rattle.rules.specs.declared.View.{View}
 use Rattle.rules.specs.declared.Cut.{Cut}
+use Rattle.cutter.specs.Certificate.{endAt, widthAt}
 use Rattle.bookbytes.specs.Reading.{signedAt}
 use Rattle.bookbytes.specs.Framing.{adjustedAt, paymentAt}
-
--- the cutter's upper end of step j, and "a width there is again an upper end less the one before"
-unfoldable pub endAt : Cut → ℕ → ℕ
-endAt r j = getD (r .ends) j 0
-
-unfoldable pub widthAt : Cut → ℕ → ℕ
-widthAt r j = endAt r j - before (endAt r) j
 
 -- m(r, s) "as the step view answers" it, among its ten matches: those of s follow those of the schedules before it
 abbrev pub matchesBefore : ℕ → ℕ

@@ -1,47 +1,44 @@
--- The ends of an accepted line's steps: they stay within M, and the widths add up to it.
-use Prim.Native.Nat.{ℕ, zero, suc, _≤_, _<_}
-use native.Mathlib.Decide.{decLt}
+-- The ends of an accepted line's steps rise from 0 to M, so the widths add up to it.
+use Prim.Native.Nat.{ℕ, zero, suc, _-_, _≤_, _<_}
 use native.Mathlib.Omega.{arith}
-use mathlib.Core.Path.{_≡_, refl, _∙_}
+use mathlib.Core.Path.{_≡_, _∙_, ap}
 use mathlib.Core.List.{List}
 use Rattle.rules.specs.Fold.{sumTo}
-use Rattle.rules.specs.Steps.{greatestBreak, stepCount, upperEnd, lowerEnd, width}
+use Rattle.rules.specs.Quantities.{allocated}
+use Rattle.rules.specs.Steps.{greatestBreak, ends, stepCount, upperEnd, lowerEnd, width}
 use Rattle.laws.specs.Accepted.{AcceptedLine}
-use Rattle.laws.specs.Folds.{sum-none, sum-suc}
-use Rattle.certificate.specs.Layers.{Layers}
+use Rattle.laws.specs.Folds.{sum-same}
+use Rattle.cutter.specs.Lists.{rises-at, in-at}
+use Rattle.cutter.specs.Ends.{ends-rise, end-of, end-most, count-some, last-is}
+use Rattle.quantities.specs.Adding.{RisingEnds, allocatedBetween, steps-add-up}
 
--- a step's upper end is the next one's lower end, and the first lower end is 0
-next-lower : (w : List ℕ) (j : ℕ) → lowerEnd w (suc j) ≡ upperEnd w j
+-- what stands before the end of n steps is the last one's upper end
+lower-last : (w : List ℕ) (n : ℕ) → 0 < n → lowerEnd w n ≡ upperEnd w (n - 1)
 unfolding lowerEnd upperEnd
-next-lower w j = refl
+lower-last w zero h = absurd (omega arith)
+lower-last w (suc n) h = ap (upperEnd w) (omega arith)
 
-first-lower : (w : List ℕ) → lowerEnd w 0 ≡ 0
-unfolding lowerEnd
-first-lower w = refl
+module _ (w : List ℕ) (a : AcceptedLine w) where
+  end-rises : (j : ℕ) → j < stepCount w → lowerEnd w j < upperEnd w j
+  unfolding stepCount lowerEnd upperEnd
+  end-rises j l = rises-at (ends-rise w a) j l
 
-module _ (layers : Layers) (w : List ℕ) (a : AcceptedLine w) where
-  lower-most : (j n : ℕ) → j ≤ n → n ≤ stepCount w → lowerEnd w j ≤ lowerEnd w n
-  lower-most j zero l g = let e : j ≡ 0 = omega arith in rw e (omega arith)
-  lower-most j (suc n) l g =
-      let r = lower-most j n in
-      let s = layers .rising w a n g in
-      let e = next-lower w n in
-      elim (decLt n j) [
-        | yes i ↦ let q : j ≡ suc n = omega arith in rw q (omega arith)
-        | no i ↦ omega (arith, r (omega arith) (omega arith))
-      ]
+  pub line-ends : RisingEnds w
+  line-ends =
+      record {
+        rising = λ j l. omega (arith, end-rises j l);
+        last = lower-last w (stepCount w) (count-some w a) ∙ last-is w a;
+      }
 
   pub upper-most : (j : ℕ) → j < stepCount w → upperEnd w j ≤ greatestBreak w
-  upper-most j l = omega (arith, next-lower w j, lower-most (suc j) (stepCount w) l (omega arith), layers .last w a)
+  unfolding stepCount upperEnd
+  upper-most j l = end-most w a (upperEnd w j) (end-of w (upperEnd w j) (in-at (ends w) j l))
 
-  widths-to : (n : ℕ) → n ≤ stepCount w → sumTo n (width w) ≡ lowerEnd w n
-  unfolding width
-  widths-to zero l = sum-none (width w) ∙ omega (arith, first-lower w)
-  widths-to (suc n) l =
-      let r = widths-to n (omega arith) in
-      let s = layers .rising w a n l in
-      let e = next-lower w n in
-      rw (sum-suc n (width w), r) (omega arith)
+  width-is : (j : ℕ) → j < stepCount w → width w j ≡ allocatedBetween (greatestBreak w) (lowerEnd w) j
+  unfolding width allocatedBetween allocated lowerEnd upperEnd
+  width-is j l = let u = upper-most j l in omega arith
 
   pub widths-sum : sumTo (stepCount w) (width w) ≡ greatestBreak w
-  widths-sum = widths-to (stepCount w) (omega arith) ∙ layers .last w a
+  widths-sum =
+      sum-same (stepCount w) (width w) (allocatedBetween (greatestBreak w) (lowerEnd w)) width-is
+      ∙ steps-add-up w (greatestBreak w) line-ends (omega arith)

@@ -3,7 +3,6 @@ pub mod Certificate
 pub mod Sums
 pub mod Money
 pub mod Answers
-pub mod Layers
 pub mod Ends
 pub mod Paid
 pub mod Proof

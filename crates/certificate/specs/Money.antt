@@ -43,19 +43,19 @@ unfolding total linePayments
 totals-sum d = sumZ-swap 5 (lineCount d) (linePayment d)
 
 -- and so do the five adjusted totals
-pub at-five : (f : ℕ → ℤ) (s : ℕ) → s < 5 → atZ (five f) s ≡ f s
-at-five f zero l = refl
-at-five f (suc zero) l = refl
-at-five f (suc (suc zero)) l = refl
-at-five f (suc (suc (suc zero))) l = refl
-at-five f (suc (suc (suc (suc zero)))) l = refl
-at-five f (suc (suc (suc (suc (suc s))))) l = absurd (omega arith)
+pub atZ-five : (f : ℕ → ℤ) (s : ℕ) → s < 5 → atZ (five f) s ≡ f s
+atZ-five f zero l = refl
+atZ-five f (suc zero) l = refl
+atZ-five f (suc (suc zero)) l = refl
+atZ-five f (suc (suc (suc zero))) l = refl
+atZ-five f (suc (suc (suc (suc zero)))) l = refl
+atZ-five f (suc (suc (suc (suc (suc s))))) l = absurd (omega arith)
 
 pub adjusted-payments : (d : List ℕ) → sumZ 5 (adjustedTotal d) ≡ sumZ (lineCount d) (linePayments d)
 unfolding adjustedTotal totals
 adjusted-payments d =
     adjusted-sum (totals d) (first-total d)
-    ∙ sumZ-same 5 (atZ (totals d)) (total d) (at-five (total d))
+    ∙ sumZ-same 5 (atZ (totals d)) (total d) (atZ-five (total d))
     ∙ totals-sum d
 
 pub adjusted-order : (d : List ℕ) (r s : ℕ) → r < s → s < 5 → 0 < pl (adjustedTotal d r) → mi (adjustedTotal d s) ≡ 0
