@@ -3,7 +3,5 @@ pub mod Certificate
 pub mod Sums
 pub mod Money
 pub mod Answers
-pub mod Ends
-pub mod Paid
 pub mod Proof
 pub mod Uses

@@ -21,21 +21,20 @@ use Rattle.rules.specs.Book.{bookOf, bookAfter}
 use Rattle.rules.specs.declared.View.{View}
 use Rattle.rules.specs.declared.Cut.{Cut}
 use Rattle.laws.specs.Accepted.{accepted-day, accepted-line-at}
-use Rattle.laws.specs.Folds.{sum-same}
+use Rattle.laws.specs.Folds.{sum-same, at-five}
 use Rattle.laws.specs.Ints.{ltZ-yes, le-ltZ}
 use Rattle.totals.specs.Sizes.{Bounded, mag-size, adjusted-size}
 use Rattle.bookbytes.specs.Reading.{signedAt}
 use Rattle.bookbytes.specs.Framing.{paymentAt, book-words, book-adjusted, book-payment, after-settling}
 use Rattle.certificate.specs.Certificate.{Certified, matchIn, matchesMade, matchesWith, adjustedIn, paymentsIn}
-use Rattle.numbers.specs.Fives.{at-five}
 use Rattle.quantities.specs.Bounds.{aginoOn-most, msiqOn-most}
 use Rattle.quantities.specs.Adding.{stepPricing, stepOperating, pricing-adds-up, operating-adds-up}
 use Rattle.matching.specs.Balance.{matchedWith, matchesIn, falls-matched, rises-bound, rises-balance}
 use Rattle.cutter.specs.Certificate.{endAt, widthAt}
-use Rattle.certificate.specs.Ends.{line-ends, widths-sum}
-use Rattle.certificate.specs.Paid.{payment-size}
+use Rattle.inputs.specs.Ends.{line-ends, widths-sum}
+use Rattle.inputs.specs.Paid.{payment-size}
 use Rattle.certificate.specs.Sums.{sumZ-same, sumZ-size}
-use Rattle.certificate.specs.Money.{linePayments, atZ-five, adjusted-payments, adjusted-order}
+use Rattle.certificate.specs.Money.{linePayments, adjusted-payments, adjusted-order}
 use Rattle.certificate.specs.Answers.{view-whole, cut-whole, settle-taken, end-at, width-at, match-at}
 
 module _ (d : List ℕ) (h : dayFault d ≡ 0) where
@@ -73,14 +72,14 @@ module _ (d : List ℕ) (h : dayFault d ≡ 0) where
     unfolding viewOf stepPricing
     pricing-sum k s l g =
         let a = accepted-line-at d (accepted-day d h) k l in
-        steps-sum k l (λ v. at (v .pricing) s) (stepPricing d k s) (λ j. at-five (pricingOn (stepOf d k j)) s g)
+        steps-sum k l (λ v. at (v .pricing) s) (stepPricing d k s) (λ j. at-five (pricingOn (stepOf d k j)) 0 s g)
         ∙ pricing-adds-up d k s g (line-ends (lineAt d k) a) (a .pricing-most s g)
 
     operating-sum : (k s : ℕ) → k < lineCount d → s < 5 → sumTo (cut k .count) (λ j. at (view k j .operating) s) ≡ operatingTotal (lineAt d k) s
     unfolding viewOf stepOperating
     operating-sum k s l g =
         let a = accepted-line-at d (accepted-day d h) k l in
-        steps-sum k l (λ v. at (v .operating) s) (stepOperating d k s) (λ j. at-five (operatingOn (stepOf d k j)) s g)
+        steps-sum k l (λ v. at (v .operating) s) (stepOperating d k s) (λ j. at-five (operatingOn (stepOf d k j)) 0 s g)
         ∙ operating-adds-up d k s g (line-ends (lineAt d k) a) (a .operating-most s g)
 
     same-end : (k j : ℕ) → k < lineCount d → j < cut k .count → endAt (cut k) j ≡ view k j .end
@@ -97,13 +96,13 @@ module _ (d : List ℕ) (h : dayFault d ≡ 0) where
     unfolding viewOf
     agino-most k j s l g i =
         let x = stepOf d k j in
-        rw (view-is k j l g, at-five (aginoOn x) s i, at-five (operatingOn x) s i) (aginoOn-most x s i)
+        rw (view-is k j l g, at-five (aginoOn x) 0 s i, at-five (operatingOn x) 0 s i) (aginoOn-most x s i)
 
     msiq-most : (k j s : ℕ) → k < lineCount d → j < cut k .count → s < 5 → at (view k j .msiq) s ≤ at (view k j .pricing) s
     unfolding viewOf
     msiq-most k j s l g i =
         let x = stepOf d k j in
-        rw (view-is k j l g, at-five (msiqOn x) s i, at-five (pricingOn x) s i) (msiqOn-most x s i)
+        rw (view-is k j l g, at-five (msiqOn x) 0 s i, at-five (pricingOn x) 0 s i) (msiqOn-most x s i)
 
     -- m and C of a step of the view are the definitions'
     match-is : (k j s r : ℕ) → s < 5 → matchIn (viewOf d k j) s r ≡ matched (onStep (stepOf d k j)) s r
@@ -141,8 +140,8 @@ module _ (d : List ℕ) (h : dayFault d ≡ 0) where
         most =
             λ s l.
             let c = accepted-day d h .header .count-most in
-            let m = sumZ-size (lineCount d) (quantityMost * priceMost) (linePayment d s) (λ k g. payment-size d h k g s l) in
-            rw (atZ-five (total d) s l) (omega arith);
+            let m = sumZ-size (lineCount d) (quantityMost * priceMost) (linePayment d s) (λ k g. payment-size d (accepted-day d h) k g s l) in
+            rw (at-five (total d) (pos 0) s l) (omega arith);
       }
 
   module _ (rest : List ℕ) where
@@ -159,7 +158,7 @@ module _ (d : List ℕ) (h : dayFault d ≡ 0) where
     unfolding paymentsIn linePayments
     payments-is k l =
         sumZ-same 5 (λ s. signedAt book (paymentAt k s)) (λ s. linePayment d s k)
-        (λ s g. book-payment d rest k s l g (mag-size (linePayment d s k) (omega (arith, payment-size d h k l s g))))
+        (λ s g. book-payment d rest k s l g (mag-size (linePayment d s k) (omega (arith, payment-size d (accepted-day d h) k l s g))))
 
     lines-is : word book 0 ≡ lineCount d
     lines-is =

@@ -2,10 +2,17 @@
 // Money is worked out as what is paid and what is taken back, and becomes signed at the end.
 
 use matching::match_table;
-use numbers::{greater, greater64, less, less64, lesser, lesser64, share, signed, wide};
+use numbers::greater;
+use numbers::greater64;
+use numbers::less;
+use numbers::less64;
+use numbers::lesser;
+use numbers::lesser64;
+use numbers::share;
+use numbers::signed;
+use numbers::wide;
 use quantities::constrained_on;
 use rules::Step;
-
 ghost use mathlib.Core.Path.{_≡_};
 ghost use mathlib.Core.Bool.{cond, not};
 ghost use Prim.Native.Nat.{ℕ, _+_, _*_, _-_, _<_, _≤_, _^_};
@@ -17,8 +24,24 @@ ghost use Rattle.matching.specs.Ledgers.{matchRow};
 ghost use Rattle.payments.specs.Sizes.{Sized};
 ghost use Rattle.payments.specs.Parts.{changeOn, takenBack};
 ghost use Rattle.payments.specs.Amounts.{
-    revisedAt, onlyPaid, productIn, sumIn, givenAt, differIn, moneyOf, minusOf, paymentOf, moneySum, stepPool, poolSum,
-    totalIn, baseIn, takenIn, finalOn, Sharing, InPool
+  revisedAt,
+  onlyPaid,
+  productIn,
+  sumIn,
+  givenAt,
+  differIn,
+  moneyOf,
+  minusOf,
+  paymentOf,
+  moneySum,
+  stepPool,
+  poolSum,
+  totalIn,
+  baseIn,
+  takenIn,
+  finalOn,
+  Sharing,
+  InPool,
 };
 
 // What is paid and what is taken back, by schedule.
@@ -159,7 +182,10 @@ fn given_back(m: [u32; 5], rate: [u32; 5]) -> u64
     requires { ⌜ givenAt m rate < 2 ^ 64 ⌝ }
     ensures { λ r. ⌜ r ≡ givenAt m rate ⌝ }
 {
-    product(m[0], rate[0]) + product(m[1], rate[1]) + product(m[2], rate[2]) + product(m[3], rate[3])
+    product(m[0], rate[0])
+        + product(m[1], rate[1])
+        + product(m[2], rate[2])
+        + product(m[3], rate[3])
 }
 
 fn given_if_paid(paid: u32, m: [u32; 5], rate: [u32; 5]) -> u64
@@ -183,10 +209,26 @@ fn revised_minus(x: Step, t: [[u32; 5]; 5]) -> [u64; 5]
     let paid = x.paid;
     [
         0,
-        given_if_paid(paid[1], t[1], revised_rates(side, price, price[1], market[1])),
-        given_if_paid(paid[2], t[2], revised_rates(side, price, price[2], market[2])),
-        given_if_paid(paid[3], t[3], revised_rates(side, price, price[3], market[3])),
-        given_if_paid(paid[4], t[4], revised_rates(side, price, price[4], market[4])),
+        given_if_paid(
+            paid[1],
+            t[1],
+            revised_rates(side, price, price[1], market[1]),
+        ),
+        given_if_paid(
+            paid[2],
+            t[2],
+            revised_rates(side, price, price[2], market[2]),
+        ),
+        given_if_paid(
+            paid[3],
+            t[3],
+            revised_rates(side, price, price[3], market[3]),
+        ),
+        given_if_paid(
+            paid[4],
+            t[4],
+            revised_rates(side, price, price[4], market[4]),
+        ),
     ]
 }
 

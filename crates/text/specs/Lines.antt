@@ -18,16 +18,19 @@ use Rattle.rules.specs.Report.{numberAfter, fiveNumbers, paymentOf, lineText}
 unfoldable pub numbers : (ℕ → ℤ) → List ℕ
 numbers f = joined 5 (numberAfter f)
 
--- participant, point, side and steps
-unfoldable pub lineKey : ℕ → ℕ → ℕ → ℕ → List ℕ
-lineKey p q sd n = decimal p ++ space ++ decimal q ++ space ++ sideText sd ++ space ++ decimal n
+-- participant and point; side and steps
+unfoldable pub lineIds : ℕ → ℕ → List ℕ
+lineIds p q = decimal p ++ space ++ decimal q
+
+unfoldable pub sideSteps : ℕ → ℕ → List ℕ
+sideSteps sd n = space ++ sideText sd ++ space ++ decimal n
 
 -- a line's text without its end, and whole
 unfoldable pub lineStart : ℕ → ℕ → ℕ → ℕ → (ℕ → ℤ) → List ℕ
-lineStart p q sd n f = lineKey p q sd n ++ numbers f
+lineStart p q sd n f = lineIds p q ++ sideSteps sd n ++ numbers f
 
 unfoldable pub lineTextOf : ℕ → ℕ → ℕ → ℕ → (ℕ → ℤ) → List ℕ
-lineTextOf p q sd n f = lineKey p q sd n ++ fiveNumbers f
+lineTextOf p q sd n f = lineIds p q ++ sideSteps sd n ++ fiveNumbers f
 
 -- the first line
 unfoldable pub heading : ℕ → List ℕ
@@ -38,17 +41,21 @@ unfoldable pub totalsText : (ℕ → ℤ) → (ℕ → ℤ) → List ℕ
 totalsText t a = totalText ++ fiveNumbers t ++ adjustedText ++ fiveNumbers a
 
 -- a line's text is that of the line's values
+regroup : (x s t u v w : List ℕ) → x ++ s ++ t ++ u ++ v ++ w ≡ x ++ (s ++ t ++ u ++ v) ++ w
+regroup x s t u v w = simp append-assoc
+
 pub line-of : (d : List ℕ) (k : ℕ)
     → lineText d k ≡ lineTextOf (participant (lineAt d k)) (point (lineAt d k)) (side (lineAt d k)) (stepCount (lineAt d k)) (paymentOf d k)
-unfolding lineText lineTextOf lineKey
-line-of d k = refl
+unfolding lineText lineTextOf lineIds sideSteps
+line-of d k =
+    regroup (decimal (participant (lineAt d k)) ++ space ++ decimal (point (lineAt d k))) space (sideText (side (lineAt d k))) space
+    (decimal (stepCount (lineAt d k)))
+    (fiveNumbers (paymentOf d k))
 
 -- how the parts make up the texts
-pub numbers-are : (f : ℕ → ℤ)
-    → numbers f ≡ (space ++ signedDecimal (f 0)) ++ (space ++ signedDecimal (f 1)) ++ (space ++ signedDecimal (f 2)) ++ (space ++ signedDecimal (f 3))
-    ++ (space ++ signedDecimal (f 4))
-unfolding numbers joined numberAfter
-numbers-are f = refl
+pub number-is : (f : ℕ → ℤ) (s : ℕ) → space ++ signedDecimal (f s) ≡ numberAfter f s
+unfolding numberAfter
+number-is f s = refl
 
 pub five-is : (f : ℕ → ℤ) → numbers f ++ lineFeed ≡ fiveNumbers f
 unfolding numbers fiveNumbers
@@ -56,7 +63,9 @@ five-is f = refl
 
 pub line-is : (p q sd n : ℕ) (f : ℕ → ℤ) → lineStart p q sd n f ++ lineFeed ≡ lineTextOf p q sd n f
 unfolding lineStart lineTextOf
-line-is p q sd n f = append-assoc (lineKey p q sd n) (numbers f) lineFeed ∙ ap (λ (t : List ℕ). lineKey p q sd n ++ t) (five-is f)
+line-is p q sd n f =
+    append-assoc (lineIds p q ++ sideSteps sd n) (numbers f) lineFeed
+    ∙ ap (λ (t : List ℕ). lineIds p q ++ sideSteps sd n ++ t) (five-is f)
 
 -- five numbers as a list
 pub five-of : (f : ℕ → ℤ) → fiveNumbers (atZ (five f)) ≡ fiveNumbers f

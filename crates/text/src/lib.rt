@@ -9,7 +9,7 @@ ghost use Rattle.rules.specs.Layout.{word};
 ghost use Rattle.rules.specs.Refusals.{bookLength};
 ghost use Rattle.rules.specs.Report.{decimal, signedDecimal, space, fiveNumbers, sideText, refusedLine};
 ghost use Rattle.text.specs.Put.{Written};
-ghost use Rattle.text.specs.Lines.{numbers, lineKey, lineStart, lineTextOf, heading, totalsText};
+ghost use Rattle.text.specs.Lines.{numbers, lineIds, sideSteps, lineStart, lineTextOf, heading, totalsText};
 ghost use Rattle.text.specs.BookText.{moneysAt, entryAt, entryText, bookText, reportMost, reportOf};
 use bytes_le::bits;
 use bytes_le::signed_at;
@@ -79,11 +79,13 @@ pub fn put_numbers(out: &mut [u8], at: usize, v: [i64; 5]) -> usize
     requires { ⌜ at + 110 ≤ length (now out) ⌝ }
     ensures { λ r. ⌜ Written 110 (now (out .entry)) at (numbers (atZ v)) r (now (out .exit)) ⌝ }
 {
-    let a = put_number(out, at, v[0]);
-    let b = put_number(out, a, v[1]);
-    let c = put_number(out, b, v[2]);
-    let d = put_number(out, c, v[3]);
-    put_number(out, d, v[4])
+    let mut p = at;
+    let mut s = 0;
+    while s < 5 {
+        p = put_number(out, p, v[s]);
+        s += 1;
+    }
+    p
 }
 
 // Five numbers and the line's end.
@@ -106,18 +108,25 @@ pub fn put_side(out: &mut [u8], at: usize, side: u32) -> usize
     put_bytes(out, at, b"INJ")
 }
 
-// Participant, point, side and steps, with spaces between them.
-fn put_key(out: &mut [u8], at: usize, participant: u32, point: u32, side: u32, steps: u32) -> usize
-    requires { ⌜ at + 66 ≤ length (now out) ⌝ }
-    ensures { λ r. ⌜ Written 66 (now (out .entry)) at (lineKey participant point side steps) r (now (out .exit)) ⌝ }
+// Participant and point, with a space between them.
+fn put_ids(out: &mut [u8], at: usize, participant: u32, point: u32) -> usize
+    requires { ⌜ at + 41 ≤ length (now out) ⌝ }
+    ensures { λ r. ⌜ Written 41 (now (out .entry)) at (lineIds participant point) r (now (out .exit)) ⌝ }
 {
     let a = put_decimal(out, at, participant as u64);
     let b = put_byte(out, a, b' ');
-    let c = put_decimal(out, b, point as u64);
-    let d = put_byte(out, c, b' ');
-    let e = put_side(out, d, side);
-    let f = put_byte(out, e, b' ');
-    put_decimal(out, f, steps as u64)
+    put_decimal(out, b, point as u64)
+}
+
+// The side between spaces, and the steps.
+fn put_side_steps(out: &mut [u8], at: usize, side: u32, steps: u32) -> usize
+    requires { ⌜ at + 25 ≤ length (now out) ⌝ }
+    ensures { λ r. ⌜ Written 25 (now (out .entry)) at (sideSteps side steps) r (now (out .exit)) ⌝ }
+{
+    let a = put_byte(out, at, b' ');
+    let b = put_side(out, a, side);
+    let c = put_byte(out, b, b' ');
+    put_decimal(out, c, steps as u64)
 }
 
 // A line of the report without its end.
@@ -133,8 +142,9 @@ pub fn put_line_start(
     requires { ⌜ at + 176 ≤ length (now out) ⌝ }
     ensures { λ r. ⌜ Written 176 (now (out .entry)) at (lineStart participant point side steps (atZ payments)) r (now (out .exit)) ⌝ }
 {
-    let p = put_key(out, at, participant, point, side, steps);
-    put_numbers(out, p, payments)
+    let a = put_ids(out, at, participant, point);
+    let b = put_side_steps(out, a, side, steps);
+    put_numbers(out, b, payments)
 }
 
 // A line of the report.

@@ -10,8 +10,10 @@ unfolding lineStart
 returns c =
     let c1 = c .before .before in
     let c2 = c1 .before .before .before .before in
-    then (c2 .put-key .ensures) (c1 .put-numbers .ensures)
+    let c3 = c2 .before .before .before .before in
+    then (then (c3 .put-ids .ensures) (c2 .put-side-steps .ensures)) (c1 .put-numbers .ensures)
 
 pub put-line-start-spec : {M : Type 1} → statement M
 put-line-start-spec =
-    tie.close (tie.spec (λ c κs. search needs) (λ c κs. search needs) (λ c. search needs) returns)
+    tie.close
+    (tie.spec (λ c κs. search needs) (λ c κs. search needs) (λ c κs. search needs) (λ c. search needs) returns)

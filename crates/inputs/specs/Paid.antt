@@ -13,9 +13,8 @@ use Rattle.rules.specs.Layout.{quantityMost, priceMost, lineCount, lineAt, side
 use Rattle.rules.specs.Steps.{greatestBreak, stepCount, upperEnd, bidStep, price, capped}
 use Rattle.rules.specs.Matching.{earlier, rise, fall}
 use Rattle.rules.specs.Payments.{onStep, isPaid, stepPrice, stepOf, poolOf, stepFinal}
-use Rattle.rules.specs.Refusals.{dayFault}
 use Rattle.rules.specs.Totals.{linePayment}
-use Rattle.laws.specs.Accepted.{AcceptedBid, AcceptedLine, accepted-day, accepted-line-at}
+use Rattle.laws.specs.Accepted.{AcceptedBid, AcceptedLine, AcceptedDay, accepted-line-at}
 use Rattle.laws.specs.Folds.{sum-none, sum-suc, sum-le, sum-most, sumZ-none, sumZ-suc}
 use Rattle.laws.specs.Ints.{pl, mi, apart, pl-add, mi-add}
 use Rattle.totals.specs.Sizes.{size}
@@ -25,16 +24,16 @@ use Rattle.payments.specs.Sizes.{Sized}
 use Rattle.payments.specs.Parts.{changeOn}
 use Rattle.payments.specs.Kinds.{paid-most, taken-most}
 use Rattle.cutter.specs.Ends.{most-limit}
-use Rattle.certificate.specs.Ends.{line-ends, upper-most}
+use Rattle.inputs.specs.Ends.{line-ends, upper-most}
 
 -- what a sum has above 0 is at most what its terms have, and so below 0
-plus-most : (n : ℕ) (f : ℕ → ℤ) → pl (sumZ n f) ≤ sumTo n (λ i. pl (f i))
+pub plus-most : (n : ℕ) (f : ℕ → ℤ) → pl (sumZ n f) ≤ sumTo n (λ i. pl (f i))
 plus-most zero f = rw (sumZ-none f) (omega arith)
 plus-most (suc n) f =
     let r = plus-most n f in
     rw (sumZ-suc n f, sum-suc n (λ i. pl (f i))) (omega (arith, pl-add (sumZ n f) (f n)))
 
-minus-most : (n : ℕ) (f : ℕ → ℤ) → mi (sumZ n f) ≤ sumTo n (λ i. mi (f i))
+pub minus-most : (n : ℕ) (f : ℕ → ℤ) → mi (sumZ n f) ≤ sumTo n (λ i. mi (f i))
 minus-most zero f = rw (sumZ-none f) (omega arith)
 minus-most (suc n) f =
     let r = minus-most n f in
@@ -47,7 +46,7 @@ scaled (suc n) b f =
     let r = scaled n b f in
     rw (sum-suc n (λ i. f i * b), sum-suc n f, r) (sym (add-mul (sumTo n f) (f n) b))
 
-scaled-most : (n b m : ℕ) (f g : ℕ → ℕ) → ((i : ℕ) → i < n → f i ≤ g i * b) → sumTo n g ≤ m → sumTo n f ≤ m * b
+pub scaled-most : (n b m : ℕ) (f g : ℕ → ℕ) → ((i : ℕ) → i < n → f i ≤ g i * b) → sumTo n g ≤ m → sumTo n f ≤ m * b
 scaled-most n b m f g h k =
     let r = sum-le n f (λ i. g i * b) h in
     let e = scaled n b g in
@@ -59,7 +58,7 @@ price-by : (w : List ℕ) (s : ℕ) → AcceptedBid w s → (i : ℕ) (t : Bool)
 price-by w s b i true e = b .price-most i (ltb-true i (bidCount w s) e)
 price-by w s b i false e = b .price-most (bidCount w s - 1) (omega (arith, b .count-least))
 
-price-most : (w : List ℕ) (s u : ℕ) → AcceptedBid w s → price w s u ≤ priceMost
+pub price-most : (w : List ℕ) (s u : ℕ) → AcceptedBid w s → price w s u ≤ priceMost
 unfolding price
 price-most w s u b = price-by w s b (bidStep w s u) (ltb (bidStep w s u) (bidCount w s)) refl
 
@@ -67,14 +66,14 @@ capped-by : (t : Bool) (p c b : ℕ) → p ≤ b → cond t (min p c) p ≤ b
 capped-by true p c b h = omega arith
 capped-by false p c b h = h
 
-module _ (d : List ℕ) (h : dayFault d ≡ 0) (k : ℕ) (l : k < lineCount d) where
-  abbrev w : List ℕ
+module _ (d : List ℕ) (a : AcceptedDay d) (k : ℕ) (l : k < lineCount d) where
+  abbrev pub w : List ℕ
   w = lineAt d k
 
-  line : AcceptedLine w
-  line = accepted-line-at d (accepted-day d h) k l
+  pub line : AcceptedLine w
+  line = accepted-line-at d a k l
 
-  sized : (j : ℕ) → j < stepCount w → Sized (stepOf d k j)
+  pub sized : (j : ℕ) → j < stepCount w → Sized (stepOf d k j)
   unfolding stepOf stepPrice capped
   sized j g =
       record {
@@ -82,11 +81,11 @@ module _ (d : List ℕ) (h : dayFault d ≡ 0) (k : ℕ) (l : k < lineCount d) w
         prices =
             five-most (stepPrice d k j) priceMost
             (λ s i. capped-by (eqb (capMark d s) 1) (price w s (upperEnd w j)) (priceCap d) priceMost (price-most w s (upperEnd w j) (line .bids s i)));
-        markets = five-most (marketPrice d) priceMost (λ s i. accepted-day d h .market .price-most s i);
+        markets = five-most (marketPrice d) priceMost (λ s i. a .market .price-most s i);
       }
 
   -- a rise or a fall that is paid is at most the whole one
-  change-by : (t : Bool) (c : ℕ) → cond t c 0 ≤ c
+  pub change-by : (t : Bool) (c : ℕ) → cond t c 0 ≤ c
   change-by true c = omega arith
   change-by false c = omega arith
 
@@ -105,11 +104,11 @@ module _ (d : List ℕ) (h : dayFault d ≡ 0) (k : ℕ) (l : k < lineCount d) w
       le-trans (taken-most x (clawback d) s (poolOf d (side w) s) (sized j g)) (mul-le-mul-right priceMost r)
 
   -- C(s) of the steps adds up to at most M, and so does C(s-1)
-  constrained-most : (s : ℕ) → s < 5 → sumTo (stepCount w) (λ j. at (onStep (stepOf d k j)) s) ≤ greatestBreak w
+  pub constrained-most : (s : ℕ) → s < 5 → sumTo (stepCount w) (λ j. at (onStep (stepOf d k j)) s) ≤ greatestBreak w
   unfolding stepConstrained
   constrained-most s i = constrained-adds-up d k s i (line-ends w line) (line .operating-most s i)
 
-  earlier-most : (s : ℕ) → s < 5 → sumTo (stepCount w) (λ j. earlier (onStep (stepOf d k j)) s) ≤ greatestBreak w
+  pub earlier-most : (s : ℕ) → s < 5 → sumTo (stepCount w) (λ j. earlier (onStep (stepOf d k j)) s) ≤ greatestBreak w
   unfolding earlier before
   earlier-most zero i = omega (arith, sum-most (stepCount w) 0 (λ j. 0) (λ j g. omega arith))
   earlier-most (suc s) i = constrained-most s (omega arith)
