@@ -6,17 +6,17 @@ use mathlib.Core.List.{List}
 use mathlib.Core.Bool.{Bool, true, false, cond}
 use lib.ListN.{length, getD, length-take, length-drop}
 use lib.Dec.{ltb}
-use borrow.Author.Tests.{lt-leb, le-ltb, ltb-true}
+use borrow.Author.Tests.{lt-leb, le-leb, le-ltb, ltb-true}
 use Rattle.rules.specs.Fold.{before, _orElse_}
 use Rattle.rules.specs.Layout.{lineCount, lineAt}
 use Rattle.rules.specs.Steps.{ends, stepCount, upperEnd, lowerEnd, width}
 use Rattle.rules.specs.Refusals.{dayFault, cutFault, viewFault, settleFault, bookLength}
 use Rattle.rules.specs.Cutting.{cutOf, cutAnswer, stepPlaces}
 use Rattle.rules.specs.Matching.{matchesOf, matched, tenMatches}
-use Rattle.rules.specs.Viewing.{viewOf, viewAnswer}
+use Rattle.rules.specs.Viewing.{viewOf, viewRefused, viewAnswer}
 use Rattle.rules.specs.declared.View.{View}
 use Rattle.laws.specs.Accepted.{AcceptedDay, accepted-day}
-use Rattle.laws.specs.Folds.{refuse-false}
+use Rattle.laws.specs.Folds.{refuse-false, refuse-true}
 use Rattle.cutter.specs.Arrays.{padded-at}
 use Rattle.cutter.specs.Certificate.{endAt, widthAt}
 use Rattle.certificate.specs.Certificate.{matchesBefore, matchIn}
@@ -32,6 +32,12 @@ module _ (d : List ℕ) (h : dayFault d ≡ 0) where
   pub view-whole : (k j : ℕ) → k < lineCount d → j < stepCount (lineAt d k) → viewAnswer d k j ≡ viewOf d k j
   unfolding viewAnswer viewFault _orElse_
   view-whole k j l g = rw (h, lt-leb (lineCount d) k l, lt-leb (stepCount (lineAt d k)) j g, refuse-false 16, refuse-false 17)
+
+  -- a step past the last is refused
+  pub view-past : (k j : ℕ) → k < lineCount d → stepCount (lineAt d k) ≤ j → viewAnswer d k j .number ≡ 17
+  unfolding viewAnswer viewFault viewRefused _orElse_
+  view-past k j l g =
+      rw (h, lt-leb (lineCount d) k l, le-leb (stepCount (lineAt d k)) j g, refuse-false 16, refuse-true 17)
 
   pub cut-whole : (k : ℕ) → k < lineCount d → cutAnswer (lineAt d k) ≡ cutOf (lineAt d k)
   unfolding cutAnswer cutFault _orElse_

@@ -44,9 +44,10 @@ unfoldable pub paymentsIn : List ℕ → ℕ → ℤ
 paymentsIn book k = sumZ 5 (λ s. signedAt book (paymentAt k s))
 
 pub record Certified (d book : List ℕ) (view : ℕ → ℕ → View) (cut : ℕ → Cut) : Type 0 where
-  -- neither the cutter nor the view refuses a line or a step of the day
+  -- the cutter refuses no line; the view takes each step that the cutter counts, and no further one (17)
   pub cut-taken : (k : ℕ) → k < lineCount d → cut k .number ≡ 0
   pub view-taken : (k j : ℕ) → k < lineCount d → j < cut k .count → view k j .number ≡ 0
+  pub view-ended : (k j : ℕ) → k < lineCount d → cut k .count ≤ j → view k j .number ≡ 17
   -- on each line the view's widths add up to the greatest break
   pub widths : (k : ℕ) → k < lineCount d → sumTo (cut k .count) (λ j. view k j .width) ≡ greatestBreak (lineAt d k)
   -- "The cutter's upper ends are the view's", and its widths too

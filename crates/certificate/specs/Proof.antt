@@ -35,7 +35,7 @@ use Rattle.inputs.specs.Ends.{line-ends, widths-sum}
 use Rattle.inputs.specs.Paid.{payment-size}
 use Rattle.certificate.specs.Sums.{sumZ-same, sumZ-size}
 use Rattle.certificate.specs.Money.{linePayments, adjusted-payments, adjusted-order}
-use Rattle.certificate.specs.Answers.{view-whole, cut-whole, settle-taken, end-at, width-at, match-at}
+use Rattle.certificate.specs.Answers.{view-whole, view-past, cut-whole, settle-taken, end-at, width-at, match-at}
 
 module _ (d : List ℕ) (h : dayFault d ≡ 0) where
   -- gas and matches, of answers that are the whole ones
@@ -188,6 +188,7 @@ certified d b book view cut h l settled viewed cutted =
     (record {
       cut-taken = cut-number d h view cut vs cs;
       view-taken = view-number d h view cut vs cs;
+      view-ended = λ k j g i. ap (λ (v : View). v .number) (viewed k j) ∙ view-past d h k j g (rw (count-is d h view cut vs cs k g) at i);
       widths = widths d h view cut vs cs;
       same-end = same-end d h view cut vs cs;
       same-width = same-width d h view cut vs cs;
