@@ -1,5 +1,5 @@
 -- The certificate's proof: each clause from the law of its definition.
-use Prim.Native.Nat.{ℕ, suc, _+_, _*_, _≤_, _<_}
+use Prim.Native.Nat.{ℕ, suc, _+_, _≤_, _<_}
 use native.Mathlib.Omega.{arith}
 use mathlib.Core.Path.{_≡_, refl, sym, _∙_, ap}
 use mathlib.Core.List.{List, _++_}
@@ -8,7 +8,7 @@ use lib.ListN.{length, drop}
 use lib.IntN.{pos}
 use lib.Signed.{ltZ}
 use Rattle.rules.specs.Fold.{sumTo, sumZ, at}
-use Rattle.rules.specs.Layout.{word, lineCount, lineAt, quantityMost, priceMost}
+use Rattle.rules.specs.Layout.{word, lineCount, lineAt}
 use Rattle.rules.specs.Steps.{greatestBreak, stepCount, width}
 use Rattle.rules.specs.Quantities.{pricingTotal, operatingTotal}
 use Rattle.rules.specs.Matching.{rise, fall, matched}
@@ -16,7 +16,7 @@ use Rattle.rules.specs.Payments.{operatingOn, pricingOn, aginoOn, msiqOn, onSte
 use Rattle.rules.specs.Refusals.{dayFault, bookLength}
 use Rattle.rules.specs.Cutting.{cutOf, cutAnswer}
 use Rattle.rules.specs.Viewing.{viewOf, viewAnswer}
-use Rattle.rules.specs.Totals.{linePayment, total, totals, adjustedTotal}
+use Rattle.rules.specs.Totals.{linePayment, totals, adjustedTotal}
 use Rattle.rules.specs.Book.{bookOf, bookAfter}
 use Rattle.rules.specs.declared.View.{View}
 use Rattle.rules.specs.declared.Cut.{Cut}
@@ -33,8 +33,8 @@ use Rattle.matching.specs.Balance.{matchedWith, matchesIn, falls-matched, rises
 use Rattle.cutter.specs.Certificate.{endAt, widthAt}
 use Rattle.inputs.specs.Ends.{line-ends, widths-sum}
 use Rattle.inputs.specs.Paid.{payment-size}
-use Rattle.certificate.specs.Sums.{sumZ-same, sumZ-size}
-use Rattle.certificate.specs.Money.{linePayments, adjusted-payments, adjusted-order}
+use Rattle.totals.specs.Sums.{sumZ-same}
+use Rattle.totals.specs.Money.{linePayments, totals-bounded, adjusted-payments, adjusted-order}
 use Rattle.certificate.specs.Answers.{view-whole, view-past, cut-whole, settle-taken, end-at, width-at, match-at}
 
 module _ (d : List ℕ) (h : dayFault d ≡ 0) where
@@ -133,16 +133,10 @@ module _ (d : List ℕ) (h : dayFault d ≡ 0) where
         rw (view-is k j l g, e) (rises-balance c s)
 
   -- money, read back out of the book
-  totals-bounded : Bounded (totals d)
-  unfolding totals total
-  totals-bounded =
-      record {
-        most =
-            λ s l.
-            let c = accepted-day d h .header .count-most in
-            let m = sumZ-size (lineCount d) (quantityMost * priceMost) (linePayment d s) (λ k g. payment-size d (accepted-day d h) k g s l) in
-            rw (at-five (total d) (pos 0) s l) (omega arith);
-      }
+  sizes : Bounded (totals d)
+  sizes =
+      let a = accepted-day d h in
+      totals-bounded d (a .header .count-most) (λ k s l g. payment-size d a k l s g)
 
   module _ (rest : List ℕ) where
     abbrev book : List ℕ
@@ -151,7 +145,7 @@ module _ (d : List ℕ) (h : dayFault d ≡ 0) where
     adjusted-is : (s : ℕ) → s < 5 → adjustedIn book s ≡ adjustedTotal d s
     unfolding adjustedIn adjustedTotal
     adjusted-is s l =
-        let m = adjusted-size (totals d) totals-bounded s l in
+        let m = adjusted-size (totals d) sizes s l in
         book-adjusted d rest s l (mag-size (adjustedTotal d s) (omega arith))
 
     payments-is : (k : ℕ) → k < lineCount d → paymentsIn book k ≡ linePayments d k

@@ -1,12 +1,13 @@
 -- Money of a day: t(1) is not below 0, the totals add up to all payments, and the adjusted totals to both.
-use Prim.Native.Nat.{ℕ, _*_, _<_}
+use Prim.Native.Nat.{ℕ, _*_, _≤_, _<_}
 use native.Mathlib.Nat.{zero-sub, zero-mul}
+use native.Mathlib.Omega.{arith}
 use mathlib.Core.Path.{_≡_, refl, _∙_}
 use mathlib.Core.List.{List}
 use mathlib.Core.Bool.{Bool, true, false, cond}
 use lib.IntN.{ℤ, pos, subℕ, _*ℤ_}
 use Rattle.rules.specs.Fold.{sumZ, at, before, atZ}
-use Rattle.rules.specs.Layout.{lineCount, lineAt, side, clawback}
+use Rattle.rules.specs.Layout.{mostLines, quantityMost, priceMost, lineCount, lineAt, side, clawback}
 use Rattle.rules.specs.Steps.{stepCount}
 use Rattle.rules.specs.Matching.{earlier}
 use Rattle.rules.specs.Payments.{onStep, rate, isPaid, initial, finalPayment, Pool, stepOf, poolOf, stepFinal}
@@ -14,8 +15,9 @@ use Rattle.rules.specs.declared.Step.{Step}
 use Rattle.rules.specs.Totals.{linePayment, total, totals, adjustedTotal}
 use Rattle.laws.specs.Folds.{at-five}
 use Rattle.laws.specs.Ints.{pl, mi, mi-subℕ, mi-scale}
+use Rattle.totals.specs.Sizes.{size, Bounded}
 use Rattle.totals.specs.Balance.{none-owed, adjusted-sum}
-use Rattle.certificate.specs.Sums.{sumZ-same, sumZ-swap, sumZ-whole}
+use Rattle.totals.specs.Sums.{sumZ-same, sumZ-swap, sumZ-whole, sumZ-size}
 
 -- in the first schedule a final is an initial, and that is a rise times a rate
 initial-by : (t : Bool) (c r : ℕ) → mi (cond t (subℕ c 0 *ℤ pos r) (pos 0)) ≡ 0
@@ -53,3 +55,14 @@ adjusted-payments d =
 pub adjusted-order : (d : List ℕ) (r s : ℕ) → r < s → s < 5 → 0 < pl (adjustedTotal d r) → mi (adjustedTotal d s) ≡ 0
 unfolding adjustedTotal totals
 adjusted-order d r s l g p = none-owed (totals d) (first-total d) r s l g p
+
+-- totals of lines that are each paid at most the limits of quantity and price multiplied
+pub totals-bounded : (d : List ℕ) → lineCount d ≤ mostLines → ((k s : ℕ) → k < lineCount d → s < 5 → size (linePayment d s k) ≤ quantityMost * priceMost) → Bounded (totals d)
+unfolding totals total
+totals-bounded d c h =
+    record {
+      most =
+          λ s l.
+          let m = sumZ-size (lineCount d) (quantityMost * priceMost) (linePayment d s) (λ k g. h k s g l) in
+          rw (at-five (total d) (pos 0) s l) (omega arith);
+    }
