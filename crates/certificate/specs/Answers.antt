@@ -4,20 +4,22 @@ use native.Mathlib.Omega.{arith}
 use mathlib.Core.Path.{_≡_, refl, _∙_}
 use mathlib.Core.List.{List}
 use mathlib.Core.Bool.{Bool, true, false, cond}
-use lib.ListN.{length, getD, replicate, length-take, length-drop, List·getD-append}
+use lib.ListN.{length, getD, length-take, length-drop}
 use lib.Dec.{ltb}
-use borrow.Author.Tests.{lt-leb, le-ltb, ltb-true}
-use Rattle.rules.specs.Fold.{padded, before, _orElse_}
+use borrow.Author.Tests.{lt-leb, le-leb, le-ltb, ltb-true}
+use Rattle.rules.specs.Fold.{before, _orElse_}
 use Rattle.rules.specs.Layout.{lineCount, lineAt}
 use Rattle.rules.specs.Steps.{ends, stepCount, upperEnd, lowerEnd, width}
 use Rattle.rules.specs.Refusals.{dayFault, cutFault, viewFault, settleFault, bookLength}
 use Rattle.rules.specs.Cutting.{cutOf, cutAnswer, stepPlaces}
 use Rattle.rules.specs.Matching.{matchesOf, matched, tenMatches}
-use Rattle.rules.specs.Viewing.{viewOf, viewAnswer}
+use Rattle.rules.specs.Viewing.{viewOf, viewRefused, viewAnswer}
 use Rattle.rules.specs.declared.View.{View}
 use Rattle.laws.specs.Accepted.{AcceptedDay, accepted-day}
-use Rattle.laws.specs.Folds.{refuse-false}
-use Rattle.certificate.specs.Certificate.{endAt, widthAt, matchesBefore, matchIn}
+use Rattle.laws.specs.Folds.{refuse-false, refuse-true}
+use Rattle.cutter.specs.Arrays.{padded-at}
+use Rattle.cutter.specs.Certificate.{endAt, widthAt}
+use Rattle.certificate.specs.Certificate.{matchesBefore, matchIn}
 
 -- a line of an accepted day has its 660 bytes
 line-length : (d : List ℕ) → AcceptedDay d → (k : ℕ) → k < lineCount d → length (lineAt d k) ≡ 660
@@ -31,6 +33,12 @@ module _ (d : List ℕ) (h : dayFault d ≡ 0) where
   unfolding viewAnswer viewFault _orElse_
   view-whole k j l g = rw (h, lt-leb (lineCount d) k l, lt-leb (stepCount (lineAt d k)) j g, refuse-false 16, refuse-false 17)
 
+  -- a step past the last is refused
+  pub view-past : (k j : ℕ) → k < lineCount d → stepCount (lineAt d k) ≤ j → viewAnswer d k j .number ≡ 17
+  unfolding viewAnswer viewFault viewRefused _orElse_
+  view-past k j l g =
+      rw (h, lt-leb (lineCount d) k l, le-leb (stepCount (lineAt d k)) j g, refuse-false 16, refuse-true 17)
+
   pub cut-whole : (k : ℕ) → k < lineCount d → cutAnswer (lineAt d k) ≡ cutOf (lineAt d k)
   unfolding cutAnswer cutFault _orElse_
   cut-whole k l =
@@ -43,18 +51,18 @@ module _ (d : List ℕ) (h : dayFault d ≡ 0) where
 
 -- the cutter's ends and widths
 module _ (w : List ℕ) where
-  pub end-at : (j : ℕ) → j < stepCount w → endAt (cutOf w) j ≡ upperEnd w j
-  unfolding endAt cutOf upperEnd stepCount padded
-  end-at j l = List·getD-append (ends w) (replicate (stepPlaces - length (ends w)) 0) 0 j l
+  pub end-at : (j : ℕ) → endAt (cutOf w) j ≡ upperEnd w j
+  unfolding endAt cutOf upperEnd
+  end-at j = padded-at stepPlaces (ends w) j
 
-  before-at : (j : ℕ) → j < stepCount w → before (endAt (cutOf w)) j ≡ lowerEnd w j
+  before-at : (j : ℕ) → before (endAt (cutOf w)) j ≡ lowerEnd w j
   unfolding before lowerEnd upperEnd
-  before-at zero l = refl
-  before-at (suc j) l = end-at j (omega arith)
+  before-at zero = refl
+  before-at (suc j) = end-at j
 
-  pub width-at : (j : ℕ) → j < stepCount w → widthAt (cutOf w) j ≡ width w j
+  pub width-at : (j : ℕ) → widthAt (cutOf w) j ≡ width w j
   unfolding widthAt width
-  width-at j l = simp (end-at j l, before-at j l)
+  width-at j = simp (end-at j, before-at j)
 
 -- the ten matches are those of the definition
 ten-at : (c : List ℕ) (s r : ℕ) → r < s → s < 5 → getD (tenMatches c) (matchesBefore s + r) 0 ≡ matched c s r

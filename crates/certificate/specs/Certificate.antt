@@ -9,22 +9,16 @@ use lib.ListN.{getD}
 use lib.Dec.{ltb}
 use lib.IntN.{ℤ, pos}
 use lib.Signed.{ltZ}
-use Rattle.rules.specs.Fold.{sumTo, sumZ, at, before}
+use Rattle.rules.specs.Fold.{sumTo, sumZ, at}
 use Rattle.rules.specs.Layout.{word, lineCount, lineAt}
 use Rattle.rules.specs.Steps.{greatestBreak}
 use Rattle.rules.specs.Quantities.{pricingTotal, operatingTotal}
 use Rattle.rules.specs.Matching.{rise, fall}
 use Rattle.rules.specs.declared.View.{View}
 use Rattle.rules.specs.declared.Cut.{Cut}
+use Rattle.cutter.specs.Certificate.{endAt, widthAt}
 use Rattle.bookbytes.specs.Reading.{signedAt}
 use Rattle.bookbytes.specs.Framing.{adjustedAt, paymentAt}
-
--- the cutter's upper end of step j, and "a width there is again an upper end less the one before"
-unfoldable pub endAt : Cut → ℕ → ℕ
-endAt r j = getD (r .ends) j 0
-
-unfoldable pub widthAt : Cut → ℕ → ℕ
-widthAt r j = endAt r j - before (endAt r) j
 
 -- m(r, s) "as the step view answers" it, among its ten matches: those of s follow those of the schedules before it
 abbrev pub matchesBefore : ℕ → ℕ
@@ -50,9 +44,10 @@ unfoldable pub paymentsIn : List ℕ → ℕ → ℤ
 paymentsIn book k = sumZ 5 (λ s. signedAt book (paymentAt k s))
 
 pub record Certified (d book : List ℕ) (view : ℕ → ℕ → View) (cut : ℕ → Cut) : Type 0 where
-  -- neither the cutter nor the view refuses a line or a step of the day
+  -- the cutter refuses no line; the view takes each step that the cutter counts, and no further one (17)
   pub cut-taken : (k : ℕ) → k < lineCount d → cut k .number ≡ 0
   pub view-taken : (k j : ℕ) → k < lineCount d → j < cut k .count → view k j .number ≡ 0
+  pub view-ended : (k j : ℕ) → k < lineCount d → cut k .count ≤ j → view k j .number ≡ 17
   -- on each line the view's widths add up to the greatest break
   pub widths : (k : ℕ) → k < lineCount d → sumTo (cut k .count) (λ j. view k j .width) ≡ greatestBreak (lineAt d k)
   -- "The cutter's upper ends are the view's", and its widths too

@@ -1,10 +1,5 @@
--- The certificate: demand 3 as one statement (Certificate), its proof, and the laws of money behind it.
+-- The certificate: demand 3 as one statement (Certificate), what the entry points answer (Answers), the proof, and uses of it.
 pub mod Certificate
-pub mod Sums
-pub mod Money
 pub mod Answers
-pub mod Layers
-pub mod Ends
-pub mod Paid
 pub mod Proof
 pub mod Uses

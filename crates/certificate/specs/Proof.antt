@@ -1,5 +1,5 @@
 -- The certificate's proof: each clause from the law of its definition.
-use Prim.Native.Nat.{ℕ, zero, suc, _+_, _*_, _≤_, _<_}
+use Prim.Native.Nat.{ℕ, suc, _+_, _≤_, _<_}
 use native.Mathlib.Omega.{arith}
 use mathlib.Core.Path.{_≡_, refl, sym, _∙_, ap}
 use mathlib.Core.List.{List, _++_}
@@ -7,8 +7,8 @@ use mathlib.Core.Bool.{true, false}
 use lib.ListN.{length, drop}
 use lib.IntN.{pos}
 use lib.Signed.{ltZ}
-use Rattle.rules.specs.Fold.{sumTo, sumZ, at, five}
-use Rattle.rules.specs.Layout.{word, lineCount, lineAt, quantityMost, priceMost}
+use Rattle.rules.specs.Fold.{sumTo, sumZ, at}
+use Rattle.rules.specs.Layout.{word, lineCount, lineAt}
 use Rattle.rules.specs.Steps.{greatestBreak, stepCount, width}
 use Rattle.rules.specs.Quantities.{pricingTotal, operatingTotal}
 use Rattle.rules.specs.Matching.{rise, fall, matched}
@@ -16,34 +16,28 @@ use Rattle.rules.specs.Payments.{operatingOn, pricingOn, aginoOn, msiqOn, onSte
 use Rattle.rules.specs.Refusals.{dayFault, bookLength}
 use Rattle.rules.specs.Cutting.{cutOf, cutAnswer}
 use Rattle.rules.specs.Viewing.{viewOf, viewAnswer}
-use Rattle.rules.specs.Totals.{linePayment, total, totals, adjustedTotal}
+use Rattle.rules.specs.Totals.{linePayment, totals, adjustedTotal}
 use Rattle.rules.specs.Book.{bookOf, bookAfter}
 use Rattle.rules.specs.declared.View.{View}
 use Rattle.rules.specs.declared.Cut.{Cut}
 use Rattle.laws.specs.Accepted.{accepted-day, accepted-line-at}
-use Rattle.laws.specs.Folds.{sum-same}
+use Rattle.laws.specs.Folds.{sum-same, at-five}
 use Rattle.laws.specs.Ints.{ltZ-yes, le-ltZ}
 use Rattle.totals.specs.Sizes.{Bounded, mag-size, adjusted-size}
 use Rattle.bookbytes.specs.Reading.{signedAt}
 use Rattle.bookbytes.specs.Framing.{paymentAt, book-words, book-adjusted, book-payment, after-settling}
-use Rattle.certificate.specs.Certificate.{Certified, endAt, widthAt, matchIn, matchesMade, matchesWith, adjustedIn, paymentsIn}
-use Rattle.certificate.specs.Layers.{Layers}
-use Rattle.certificate.specs.Ends.{widths-sum}
-use Rattle.certificate.specs.Paid.{payment-size}
-use Rattle.certificate.specs.Sums.{sumZ-same, sumZ-size}
-use Rattle.certificate.specs.Money.{linePayments, at-five, adjusted-payments, adjusted-order}
-use Rattle.certificate.specs.Answers.{view-whole, cut-whole, settle-taken, end-at, width-at, match-at}
+use Rattle.certificate.specs.Certificate.{Certified, matchIn, matchesMade, matchesWith, adjustedIn, paymentsIn}
+use Rattle.quantities.specs.Bounds.{aginoOn-most, msiqOn-most}
+use Rattle.quantities.specs.Adding.{stepPricing, stepOperating, pricing-adds-up, operating-adds-up}
+use Rattle.matching.specs.Balance.{matchedWith, matchesIn, falls-matched, rises-bound, rises-balance}
+use Rattle.cutter.specs.Certificate.{endAt, widthAt}
+use Rattle.inputs.specs.Ends.{line-ends, widths-sum}
+use Rattle.inputs.specs.Paid.{payment-size}
+use Rattle.totals.specs.Sums.{sumZ-same}
+use Rattle.totals.specs.Money.{linePayments, totals-bounded, adjusted-payments, adjusted-order}
+use Rattle.certificate.specs.Answers.{view-whole, view-past, cut-whole, settle-taken, end-at, width-at, match-at}
 
--- an array of five by schedule
-five-at : (f : ℕ → ℕ) (s : ℕ) → s < 5 → at (five f) s ≡ f s
-five-at f zero l = refl
-five-at f (suc zero) l = refl
-five-at f (suc (suc zero)) l = refl
-five-at f (suc (suc (suc zero))) l = refl
-five-at f (suc (suc (suc (suc zero)))) l = refl
-five-at f (suc (suc (suc (suc (suc s))))) l = absurd (omega arith)
-
-module _ (layers : Layers) (d : List ℕ) (h : dayFault d ≡ 0) where
+module _ (d : List ℕ) (h : dayFault d ≡ 0) where
   -- gas and matches, of answers that are the whole ones
   module _ (view : ℕ → ℕ → View) (cut : ℕ → Cut) (views : (k j : ℕ) → k < lineCount d → j < stepCount (lineAt d k) → view k j ≡ viewOf d k j) (cuts : (k : ℕ) → k < lineCount d → cut k ≡ cutOf (lineAt d k)) where
     count-is : (k : ℕ) → k < lineCount d → cut k .count ≡ stepCount (lineAt d k)
@@ -72,43 +66,43 @@ module _ (layers : Layers) (d : List ℕ) (h : dayFault d ≡ 0) where
     unfolding viewOf
     widths k l =
         let a = accepted-line-at d (accepted-day d h) k l in
-        steps-sum k l (λ v. v .width) (width (lineAt d k)) (λ j. refl) ∙ widths-sum layers (lineAt d k) a
+        steps-sum k l (λ v. v .width) (width (lineAt d k)) (λ j. refl) ∙ widths-sum (lineAt d k) a
 
     pricing-sum : (k s : ℕ) → k < lineCount d → s < 5 → sumTo (cut k .count) (λ j. at (view k j .pricing) s) ≡ pricingTotal (lineAt d k) s
-    unfolding viewOf
+    unfolding viewOf stepPricing
     pricing-sum k s l g =
         let a = accepted-line-at d (accepted-day d h) k l in
-        steps-sum k l (λ v. at (v .pricing) s) (λ j. pricingOn (stepOf d k j) s) (λ j. five-at (pricingOn (stepOf d k j)) s g)
-        ∙ layers .pricing d k s a g
+        steps-sum k l (λ v. at (v .pricing) s) (stepPricing d k s) (λ j. at-five (pricingOn (stepOf d k j)) 0 s g)
+        ∙ pricing-adds-up d k s g (line-ends (lineAt d k) a) (a .pricing-most s g)
 
     operating-sum : (k s : ℕ) → k < lineCount d → s < 5 → sumTo (cut k .count) (λ j. at (view k j .operating) s) ≡ operatingTotal (lineAt d k) s
-    unfolding viewOf
+    unfolding viewOf stepOperating
     operating-sum k s l g =
         let a = accepted-line-at d (accepted-day d h) k l in
-        steps-sum k l (λ v. at (v .operating) s) (λ j. operatingOn (stepOf d k j) s) (λ j. five-at (operatingOn (stepOf d k j)) s g)
-        ∙ layers .operating d k s a g
+        steps-sum k l (λ v. at (v .operating) s) (stepOperating d k s) (λ j. at-five (operatingOn (stepOf d k j)) 0 s g)
+        ∙ operating-adds-up d k s g (line-ends (lineAt d k) a) (a .operating-most s g)
 
     same-end : (k j : ℕ) → k < lineCount d → j < cut k .count → endAt (cut k) j ≡ view k j .end
     unfolding viewOf
     same-end k j l g =
-        rw (view-is k j l g, cuts k l) (end-at (lineAt d k) j (rw (count-is k l) at g))
+        rw (view-is k j l g, cuts k l) (end-at (lineAt d k) j)
 
     same-width : (k j : ℕ) → k < lineCount d → j < cut k .count → widthAt (cut k) j ≡ view k j .width
     unfolding viewOf
     same-width k j l g =
-        rw (view-is k j l g, cuts k l) (width-at (lineAt d k) j (rw (count-is k l) at g))
+        rw (view-is k j l g, cuts k l) (width-at (lineAt d k) j)
 
     agino-most : (k j s : ℕ) → k < lineCount d → j < cut k .count → s < 5 → at (view k j .agino) s ≤ at (view k j .operating) s
     unfolding viewOf
     agino-most k j s l g i =
         let x = stepOf d k j in
-        rw (view-is k j l g, five-at (aginoOn x) s i, five-at (operatingOn x) s i) (layers .agino-most x s i)
+        rw (view-is k j l g, at-five (aginoOn x) 0 s i, at-five (operatingOn x) 0 s i) (aginoOn-most x s i)
 
     msiq-most : (k j s : ℕ) → k < lineCount d → j < cut k .count → s < 5 → at (view k j .msiq) s ≤ at (view k j .pricing) s
     unfolding viewOf
     msiq-most k j s l g i =
         let x = stepOf d k j in
-        rw (view-is k j l g, five-at (msiqOn x) s i, five-at (pricingOn x) s i) (layers .msiq-most x s i)
+        rw (view-is k j l g, at-five (msiqOn x) 0 s i, at-five (pricingOn x) 0 s i) (msiqOn-most x s i)
 
     -- m and C of a step of the view are the definitions'
     match-is : (k j s r : ℕ) → s < 5 → matchIn (viewOf d k j) s r ≡ matched (onStep (stepOf d k j)) s r
@@ -122,33 +116,27 @@ module _ (layers : Layers) (d : List ℕ) (h : dayFault d ≡ 0) where
 
     falls : (k j s : ℕ) → k < lineCount d → j < cut k .count → s < 5 → matchesMade (view k j) s ≡ fall (view k j .constrained) s
     unfolding viewOf
-    falls k j s l g i = rw (view-is k j l g) (made-is k j s i ∙ layers .falls (onStep (stepOf d k j)) s)
+    falls k j s l g i = rw (view-is k j l g) (made-is k j s i ∙ falls-matched (onStep (stepOf d k j)) s)
 
     rises : (k j r : ℕ) → k < lineCount d → j < cut k .count → r < 5 → matchesWith (view k j) r ≤ rise (view k j .constrained) r
-    unfolding viewOf matchesWith
+    unfolding viewOf matchesWith matchedWith
     rises k j r l g i =
         let c = onStep (stepOf d k j) in
         let e = sum-same 5 (λ s. matchIn (viewOf d k j) s r) (λ s. matched c s r) (λ s n. match-is k j s r n) in
-        rw (view-is k j l g, e) (layers .rises c 5 r)
+        rw (view-is k j l g, e) (rises-bound c 5 r)
 
     balance : (k j s : ℕ) → k < lineCount d → j < cut k .count → s < 5 → sumTo (suc s) (rise (view k j .constrained)) ≡ at (view k j .constrained) s + sumTo (suc s) (matchesMade (view k j))
-    unfolding viewOf
+    unfolding viewOf matchesIn
     balance k j s l g i =
         let c = onStep (stepOf d k j) in
         let e = sum-same (suc s) (matchesMade (viewOf d k j)) (λ n. sumTo n (matched c n)) (λ n m. made-is k j n (omega arith)) in
-        rw (view-is k j l g, e) (layers .balance c s)
+        rw (view-is k j l g, e) (rises-balance c s)
 
   -- money, read back out of the book
-  totals-bounded : Bounded (totals d)
-  unfolding totals total
-  totals-bounded =
-      record {
-        most =
-            λ s l.
-            let c = accepted-day d h .header .count-most in
-            let m = sumZ-size (lineCount d) (quantityMost * priceMost) (linePayment d s) (λ k g. payment-size layers d h k g s l) in
-            rw (at-five (total d) s l) (omega arith);
-      }
+  sizes : Bounded (totals d)
+  sizes =
+      let a = accepted-day d h in
+      totals-bounded d (a .header .count-most) (λ k s l g. payment-size d a k l s g)
 
   module _ (rest : List ℕ) where
     abbrev book : List ℕ
@@ -157,14 +145,14 @@ module _ (layers : Layers) (d : List ℕ) (h : dayFault d ≡ 0) where
     adjusted-is : (s : ℕ) → s < 5 → adjustedIn book s ≡ adjustedTotal d s
     unfolding adjustedIn adjustedTotal
     adjusted-is s l =
-        let m = adjusted-size (totals d) totals-bounded s l in
+        let m = adjusted-size (totals d) sizes s l in
         book-adjusted d rest s l (mag-size (adjustedTotal d s) (omega arith))
 
     payments-is : (k : ℕ) → k < lineCount d → paymentsIn book k ≡ linePayments d k
     unfolding paymentsIn linePayments
     payments-is k l =
         sumZ-same 5 (λ s. signedAt book (paymentAt k s)) (λ s. linePayment d s k)
-        (λ s g. book-payment d rest k s l g (mag-size (linePayment d s k) (omega (arith, payment-size layers d h k l s g))))
+        (λ s g. book-payment d rest k s l g (mag-size (linePayment d s k) (omega (arith, payment-size d (accepted-day d h) k l s g))))
 
     lines-is : word book 0 ≡ lineCount d
     lines-is =
@@ -185,26 +173,27 @@ module _ (layers : Layers) (d : List ℕ) (h : dayFault d ≡ 0) where
         rw (adjusted-is s g) (le-ltZ (adjustedTotal d s) (pos 0) (omega arith))
 
 -- THE CERTIFICATE, of answers that meet the contracts of settling, the step view and the cutter
-pub certified-by : Layers → (d b book : List ℕ) (view : ℕ → ℕ → View) (cut : ℕ → Cut) → dayFault d ≡ 0 → bookLength (lineCount d) ≤ length b → book ≡ bookAfter d b → ((k j : ℕ) → view k j ≡ viewAnswer d k j) → ((k : ℕ) → cut k ≡ cutAnswer (lineAt d k)) → Certified d book view cut
-certified-by layers d b book view cut h l settled viewed cutted =
+pub certified : (d b book : List ℕ) (view : ℕ → ℕ → View) (cut : ℕ → Cut) → dayFault d ≡ 0 → bookLength (lineCount d) ≤ length b → book ≡ bookAfter d b → ((k j : ℕ) → view k j ≡ viewAnswer d k j) → ((k : ℕ) → cut k ≡ cutAnswer (lineAt d k)) → Certified d book view cut
+certified d b book view cut h l settled viewed cutted =
     let rest = drop (bookLength (lineCount d)) b in
     let vs : (k j : ℕ) → k < lineCount d → j < stepCount (lineAt d k) → view k j ≡ viewOf d k j = λ k j g i. viewed k j ∙ view-whole d h k j g i in
     let cs : (k : ℕ) → k < lineCount d → cut k ≡ cutOf (lineAt d k) = λ k g. cutted k ∙ cut-whole d h k g in
     rw (settled ∙ after-settling d b (settle-taken d h b l))
     (record {
-      cut-taken = cut-number layers d h view cut vs cs;
-      view-taken = view-number layers d h view cut vs cs;
-      widths = widths layers d h view cut vs cs;
-      same-end = same-end layers d h view cut vs cs;
-      same-width = same-width layers d h view cut vs cs;
-      pricing-sum = pricing-sum layers d h view cut vs cs;
-      operating-sum = operating-sum layers d h view cut vs cs;
-      agino-most = agino-most layers d h view cut vs cs;
-      msiq-most = msiq-most layers d h view cut vs cs;
-      falls = falls layers d h view cut vs cs;
-      rises = rises layers d h view cut vs cs;
-      balance = balance layers d h view cut vs cs;
-      lines = lines-is layers d h rest;
-      adjusted-sum = sum-is layers d h rest;
-      adjusted-order = order-is layers d h rest;
+      cut-taken = cut-number d h view cut vs cs;
+      view-taken = view-number d h view cut vs cs;
+      view-ended = λ k j g i. ap (λ (v : View). v .number) (viewed k j) ∙ view-past d h k j g (rw (count-is d h view cut vs cs k g) at i);
+      widths = widths d h view cut vs cs;
+      same-end = same-end d h view cut vs cs;
+      same-width = same-width d h view cut vs cs;
+      pricing-sum = pricing-sum d h view cut vs cs;
+      operating-sum = operating-sum d h view cut vs cs;
+      agino-most = agino-most d h view cut vs cs;
+      msiq-most = msiq-most d h view cut vs cs;
+      falls = falls d h view cut vs cs;
+      rises = rises d h view cut vs cs;
+      balance = balance d h view cut vs cs;
+      lines = lines-is d h rest;
+      adjusted-sum = sum-is d h rest;
+      adjusted-order = order-is d h rest;
     })

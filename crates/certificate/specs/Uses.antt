@@ -16,9 +16,9 @@ use Rattle.rules.specs.declared.View.{View}
 use Rattle.rules.specs.declared.Cut.{Cut}
 use Rattle.rules.specs.Book.{le, bookAfter}
 use Rattle.laws.specs.Folds.{sum-same}
-use Rattle.certificate.specs.Certificate.{Certified, widthAt}
-use Rattle.certificate.specs.Layers.{Layers}
-use Rattle.certificate.specs.Proof.{certified-by}
+use Rattle.cutter.specs.Certificate.{widthAt}
+use Rattle.certificate.specs.Certificate.{Certified}
+use Rattle.certificate.specs.Proof.{certified}
 
 -- K10's day has none of settling's faults, by computation
 pub k10-accepted : dayFault k10Day ≡ 0
@@ -26,10 +26,10 @@ unfolding refuse _orElse_ first before sumTo mostTo headerFault marketPriceFault
 k10-accepted = refl
 
 -- and so it is certified, with its book in any lent one of at least 152 bytes
-pub k10-certified : Layers → (b : List ℕ) → 152 ≤ length b → Certified k10Day (bookAfter k10Day b) (viewAnswer k10Day) (λ k. cutAnswer (lineAt k10Day k))
+pub k10-certified : (b : List ℕ) → 152 ≤ length b → Certified k10Day (bookAfter k10Day b) (viewAnswer k10Day) (λ k. cutAnswer (lineAt k10Day k))
 unfolding le
-k10-certified layers b l =
-    certified-by layers k10Day b (bookAfter k10Day b) (viewAnswer k10Day) (λ k. cutAnswer (lineAt k10Day k)) k10-accepted l refl
+k10-certified b l =
+    certified k10Day b (bookAfter k10Day b) (viewAnswer k10Day) (λ k. cutAnswer (lineAt k10Day k)) k10-accepted l refl
     (λ k j. refl) (λ k. refl)
 
 -- the cutter alone covers a line: its own widths add up to the greatest break
