@@ -1,0 +1,15 @@
+-- `view::refused` meets its contract.
+use mathlib.Core.Path.{refl}
+use Rattle.rules.specs.Viewing.{viewRefused}
+use Rattle.view.proofs.refused.Statement.{statement}
+use Rattle.view.proofs.refused.Tie as tie
+
+returns : tie.Need-returns
+unfolding viewRefused
+returns c = refl
+
+pub refused-spec : {M : Type 1} → statement M
+refused-spec =
+    tie.close
+    (tie.spec
+    returns)
