@@ -3,3 +3,4 @@ pub mod Sizes
 pub mod Parts
 pub mod Kinds
 pub mod Amounts
+pub mod Lines
