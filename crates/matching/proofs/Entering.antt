@@ -54,19 +54,19 @@ unfolding entered openRises matchesOf rise fall
 entering c s {l} {m} k e =
     record {
       matching =
-        λ r h.
-        ap (λ (t : Matched). getD (t .matches) (s - suc r) 0) e
-        ∙ sym (getD-take s (takes (fall c s) (l .rises)) (s - suc r) 0 (omega arith))
-        ∙ rw (takes-take s (fall c s) (l .rises), k .held)
+          λ r h.
+          ap (λ (t : Matched). getD (t .matches) (s - suc r) 0) e
+          ∙ sym (getD-take s (takes (fall c s) (l .rises)) (s - suc r) 0 (omega arith))
+          ∙ rw (takes-take s (fall c s) (l .rises), k .held)
           (sym (matched-in c s r h));
       holding =
-        λ h.
-        record {
-          held =
-            ap (λ (t : Matched). take (suc s) (t .next .rises)) e
-            ∙ take-take (suc s) 4 (rise c s ∷ leaves (fall c s) (l .rises)) (omega arith)
-            ∙ rw (leaves-take s (fall c s) (l .rises), k .held);
-        };
+          λ h.
+          record {
+            held =
+                ap (λ (t : Matched). take (suc s) (t .next .rises)) e
+                ∙ take-take (suc s) 4 (rise c s ∷ leaves (fall c s) (l .rises)) (omega arith)
+                ∙ rw (leaves-take s (fall c s) (l .rises), k .held);
+          };
     }
 
 -- before the first schedule nothing is open

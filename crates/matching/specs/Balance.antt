@@ -54,8 +54,8 @@ sum-back zero (x ∷ l) f e h = absurd (omega arith)
 sum-back (suc n) [] f e h = absurd (omega arith)
 sum-back (suc n) (x ∷ l) f e h =
     let r =
-      sum-back n l f (omega arith)
-      (λ i k. h i (omega arith) ∙ place (x ∷ l) (suc n - suc i) (suc (n - suc i)) (omega arith)) in
+    sum-back n l f (omega arith)
+    (λ i k. h i (omega arith) ∙ place (x ∷ l) (suc n - suc i) (suc (n - suc i)) (omega arith)) in
     let t = h n (omega arith) ∙ place (x ∷ l) (suc n - suc n) 0 (omega arith) in
     rw (sum-suc n f, r, t) (omega arith)
 
@@ -84,13 +84,14 @@ rise-kept c (suc s) r h =
     elim (decLt r s) [
       | yes l ↦
           let p = place us (suc s - suc r) (suc (s - suc r)) (omega arith) in
-          omega
-          (arith,
-          p,
-          k l,
-          sum-suc s (matchedWith c r),
-          matched-in c s r l,
-          taken-left (fall c s) (openRises c s) (s - suc r))
+          omega (
+            arith,
+            p,
+            k l,
+            sum-suc s (matchedWith c r),
+            matched-in c s r l,
+            taken-left (fall c s) (openRises c s) (s - suc r),
+          )
       | no g ↦
           let e : r ≡ s = omega arith in
           let p = place us (suc s - suc r) 0 (omega arith) in
@@ -113,20 +114,22 @@ matchesIn c s = sumTo s (matched c s)
 pub rises-balance : (c : List ℕ) (s : ℕ) → sumTo (suc s) (rise c) ≡ at c s + sumTo (suc s) (matchesIn c)
 unfolding matchesIn rise fall earlier before
 rises-balance c zero =
-    omega
-    (arith,
-    sum-suc 0 (rise c),
-    sum-suc 0 (matchesIn c),
-    sum-none (rise c),
-    sum-none (matchesIn c),
-    falls-matched c 0)
+    omega (
+      arith,
+      sum-suc 0 (rise c),
+      sum-suc 0 (matchesIn c),
+      sum-none (rise c),
+      sum-none (matchesIn c),
+      falls-matched c 0,
+    )
 rises-balance c (suc s) =
-    omega
-    (arith,
-    rises-balance c s,
-    sum-suc (suc s) (rise c),
-    sum-suc (suc s) (matchesIn c),
-    falls-matched c (suc s))
+    omega (
+      arith,
+      rises-balance c s,
+      sum-suc (suc s) (rise c),
+      sum-suc (suc s) (matchesIn c),
+      falls-matched c (suc s),
+    )
 
 pub rises-less-matches : (c : List ℕ) (s : ℕ) → sumTo (suc s) (rise c) - sumTo (suc s) (matchesIn c) ≡ at c s
 rises-less-matches c s = omega (arith, rises-balance c s)
@@ -155,19 +158,20 @@ made-later c s r h =
     sum-back (s - suc r) (take (s - suc r) (matchesOf c s)) (λ i. matched c s (suc r + i))
     (length-take-le (s - suc r) (matchesOf c s) (omega (arith, matches-length c s)))
     (λ i k.
-      matched-in c s (suc r + i) (omega arith)
-      ∙ place (matchesOf c s) (s - suc (suc r + i)) (s - suc r - suc i) (omega arith)
-      ∙ sym (getD-take (s - suc r) (matchesOf c s) (s - suc r - suc i) 0 (omega arith)))
+    matched-in c s (suc r + i) (omega arith)
+    ∙ place (matchesOf c s) (s - suc (suc r + i)) (s - suc r - suc i) (omega arith)
+    ∙ sym (getD-take (s - suc r) (matchesOf c s) (s - suc r - suc i) 0 (omega arith)))
 
 -- "the match m(r, s) is the lesser of D(s) less matches of s already made with later rises, and U(r) less what schedules
 -- before s took of it"
 pub matched-is : (c : List ℕ) (s r : ℕ) → r < s → matched c s r ≡ min (fall c s - sumBetween r s (matched c s)) (rise c r - sumBetween r s (matchedWith c r))
 unfolding matchesOf
 matched-is c s r h =
-    omega
-    (arith,
-    matched-in c s r h,
-    takes-at (fall c s) (openRises c s) (s - suc r) (omega (arith, open-length c s)),
-    made-later c s r h,
-    took-before c s r h,
-    rise-kept c s r h)
+    omega (
+      arith,
+      matched-in c s r h,
+      takes-at (fall c s) (openRises c s) (s - suc r) (omega (arith, open-length c s)),
+      made-later c s r h,
+      took-before c s r h,
+      rise-kept c s r h,
+    )

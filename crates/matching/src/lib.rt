@@ -1,7 +1,7 @@
 // Document 01, "Matching": the ledger of open rises, the match table of one step and the ten matches.
 
-use numbers::{less, lesser};
-
+use numbers::less;
+use numbers::lesser;
 ghost use mathlib.Core.Path.{_≡_};
 ghost use Rattle.rules.specs.Fold.{five};
 ghost use Rattle.rules.specs.Matching.{tenMatches};
@@ -37,7 +37,12 @@ impl Ledger {
         let past_second = past_first - second;
         let third = lesser(past_second, open[2]);
         let fourth = lesser(past_second - third, open[3]);
-        let left = [less(now, before), open[0] - first, open[1] - second, open[2] - third];
+        let left = [
+            less(now, before),
+            open[0] - first,
+            open[1] - second,
+            open[2] - third,
+        ];
         Matched {
             matches: [first, second, third, fourth],
             next: Ledger { rises: left },
@@ -73,6 +78,15 @@ pub fn ten_matches(c: [u32; 5]) -> [u32; 10]
 {
     let t = match_table(c);
     [
-        t[1][0], t[2][0], t[2][1], t[3][0], t[3][1], t[3][2], t[4][0], t[4][1], t[4][2], t[4][3],
+        t[1][0],
+        t[2][0],
+        t[2][1],
+        t[3][0],
+        t[3][1],
+        t[3][2],
+        t[4][0],
+        t[4][1],
+        t[4][2],
+        t[4][3],
     ]
 }

@@ -20,7 +20,7 @@ whole-most t d b h = le-trans (mul-le-mul-left (t / b) h) (div-mul-le-self t b)
 pub share-is : (t d b : ℕ) → 0 < b → t / b * d + t % b * d / b ≡ t * d / b
 share-is t d b h =
     let e : t / b * d * b + t % b * d ≡ t * d =
-      ap (λ (n : ℕ). n + t % b * d) (mul-right-comm (t / b) d b) ∙ sym (add-mul (t / b * b) (t % b) d) ∙ ap (λ (n : ℕ). n * d) (div-add-mod' t b) in
+    ap (λ (n : ℕ). n + t % b * d) (mul-right-comm (t / b) d b) ∙ sym (add-mul (t / b * b) (t % b) d) ∙ ap (λ (n : ℕ). n * d) (div-add-mod' t b) in
     sym (mul-add-div-right h (t / b * d) (t % b * d)) ∙ ap (λ (n : ℕ). n / b) e
 
 -- the remainder's part

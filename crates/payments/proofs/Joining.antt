@@ -40,10 +40,10 @@ unfolding matchRow givenAt productIn givenBack matchedAt
 given-is x s f h p q =
     rw (p, q)
     (sum-same 4 (productIn (five (matched (onStep x) s)) (five f)) (matchedAt x s f)
-      (λ r k. rw (at-five (matched (onStep x) s) r (omega arith), at-five f r (omega arith)))
+    (λ r k. rw (at-five (matched (onStep x) s) r (omega arith), at-five f r (omega arith)))
     ∙ sum-cut s 4 (matchedAt x s f)
-      (λ r k. rw (matched-out (onStep x) s r k) (zero-mul (f r)))
-      (omega arith))
+    (λ r k. rw (matched-out (onStep x) s r k) (zero-mul (f r)))
+    (omega arith))
 
 pub given-fits : (x : Step) (s : ℕ) (f : ℕ → ℕ) → s < 5 → {m r : List ℕ} → m ≡ matchRow (onStep x) s → r ≡ five f → Sized x → ((i : ℕ) → f i ≤ priceMost) → givenAt m r < 2 ^ 64
 given-fits x s f h p q z k =

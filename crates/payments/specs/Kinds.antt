@@ -100,11 +100,12 @@ final-unpaid : (x : Step) (claw s : ℕ) (p : Pool) → mi (initial x s) ≡ 0 �
 unfolding takenBack
 final-unpaid x claw s p i r m =
     let n = mi (revised x s) + sharedTotal p * fall (onStep x) s / p .base in
-    omega
-    (arith,
-    final-minus x claw s p,
-    taken-by (mi (initial x s)) (mi (revised x s)) (mi (modified x s)) 0 (eqb s 0) (eqb claw 0) (eqb (at (x .flag) s) 1)
-    (ltb 0 (sharedTotal p) && ltb 0 (mi (initial x s))) (omega arith) (omega arith) (omega arith) n)
+    omega (
+      arith,
+      final-minus x claw s p,
+      taken-by (mi (initial x s)) (mi (revised x s)) (mi (modified x s)) 0 (eqb s 0) (eqb claw 0) (eqb (at (x .flag) s) 1)
+          (ltb 0 (sharedTotal p) && ltb 0 (mi (initial x s))) (omega arith) (omega arith) (omega arith) n,
+    )
 
 pub unpaid : (x : Step) (s : ℕ) → isPaid x s ≡ false → Unpaid x s
 unpaid x s h =
@@ -118,8 +119,8 @@ unpaid x s h =
       revised-none = nothing (revised x s) (revised-plus x s ∙ paid) revising;
       modified-none = nothing (modified x s) (modified-plus x s ∙ paid) modifying;
       final-none =
-        λ claw p.
-        nothing (finalPayment x claw s p) (final-plus x claw s p ∙ paid) (final-unpaid x claw s p taken revising modifying);
+          λ claw p.
+          nothing (finalPayment x claw s p) (final-plus x claw s p ∙ paid) (final-unpaid x claw s p taken revising modifying);
     }
 
 -- a payment of at most b in size

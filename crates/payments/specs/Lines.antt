@@ -47,31 +47,34 @@ change-by false q b h = omega arith
 pub line-rises : (d : List ℕ) (k s : ℕ) → SizedLine d k → s < 5 → sumTo (stepCount (lineAt d k)) (paidChange rise d s k) ≤ greatestBreak (lineAt d k)
 unfolding paidChange rise stepConstrained
 line-rises d k s z h =
-    omega
-    (arith,
-    sum-le (stepCount (lineAt d k)) (paidChange rise d s k) (stepConstrained d k s)
-    (λ j l. change-by (isPaid (stepOf d k j) s) (at (onStep (stepOf d k j)) s - earlier (onStep (stepOf d k j)) s) (at (onStep (stepOf d k j)) s) (omega arith)),
-    constrained-adds-up d k s h (z .ends) (z .totals s h))
+    omega (
+      arith,
+      sum-le (stepCount (lineAt d k)) (paidChange rise d s k) (stepConstrained d k s)
+          (λ j l. change-by (isPaid (stepOf d k j) s) (at (onStep (stepOf d k j)) s - earlier (onStep (stepOf d k j)) s) (at (onStep (stepOf d k j)) s) (omega arith)),
+      constrained-adds-up d k s h (z .ends) (z .totals s h),
+    )
 
 no-falls : (d : List ℕ) (k n : ℕ) → sumTo n (paidChange fall d 0 k) ≡ 0
 unfolding paidChange fall earlier before
 no-falls d k zero = sum-none (paidChange fall d 0 k)
 no-falls d k (suc n) =
-    omega
-    (arith,
-    sum-suc n (paidChange fall d 0 k),
-    no-falls d k n,
-    change-by (isPaid (stepOf d k n) 0) (0 - at (onStep (stepOf d k n)) 0) 0 (omega arith))
+    omega (
+      arith,
+      sum-suc n (paidChange fall d 0 k),
+      no-falls d k n,
+      change-by (isPaid (stepOf d k n) 0) (0 - at (onStep (stepOf d k n)) 0) 0 (omega arith),
+    )
 
 pub line-falls : (d : List ℕ) (k s : ℕ) → SizedLine d k → s < 5 → sumTo (stepCount (lineAt d k)) (paidChange fall d s k) ≤ greatestBreak (lineAt d k)
 unfolding paidChange fall earlier before stepConstrained
 line-falls d k zero z h = omega (arith, no-falls d k (stepCount (lineAt d k)))
 line-falls d k (suc s) z h =
-    omega
-    (arith,
-    sum-le (stepCount (lineAt d k)) (paidChange fall d (suc s) k) (stepConstrained d k s)
-    (λ j l. change-by (isPaid (stepOf d k j) (suc s)) (at (onStep (stepOf d k j)) s - at (onStep (stepOf d k j)) (suc s)) (at (onStep (stepOf d k j)) s) (omega arith)),
-    constrained-adds-up d k s (omega arith) (z .ends) (z .totals s (omega arith)))
+    omega (
+      arith,
+      sum-le (stepCount (lineAt d k)) (paidChange fall d (suc s) k) (stepConstrained d k s)
+          (λ j l. change-by (isPaid (stepOf d k j) (suc s)) (at (onStep (stepOf d k j)) s - at (onStep (stepOf d k j)) (suc s)) (at (onStep (stepOf d k j)) s) (omega arith)),
+      constrained-adds-up d k s (omega arith) (z .ends) (z .totals s (omega arith)),
+    )
 
 -- a signed sum is at most the sums of what is paid and of what is taken back, at the greatest price
 sum-within : (n p : ℕ) (f : ℕ → ℤ) (u d : ℕ → ℕ) → ((j : ℕ) → j < n → (pl (f j) ≤ u j * p) × (mi (f j) ≤ d j * p)) → (pl (sumZ n f) ≤ sumTo n u * p) × (mi (sumZ n f) ≤ sumTo n d * p)
@@ -95,15 +98,17 @@ pub payment-within : (d : List ℕ) (k s : ℕ) → SizedLine d k → s < 5 → 
 unfolding stepFinal paidChange changeOn
 payment-within d k s z h =
     line-within d k s (stepFinal d s k) z h
-    (λ j l.
-      (paid-most (stepOf d k j) (clawback d) s (poolOf d (side (lineAt d k)) s) (sized d k j z l),
-      taken-most (stepOf d k j) (clawback d) s (poolOf d (side (lineAt d k)) s) (sized d k j z l)))
+    (λ j l. (
+      paid-most (stepOf d k j) (clawback d) s (poolOf d (side (lineAt d k)) s) (sized d k j z l),
+      taken-most (stepOf d k j) (clawback d) s (poolOf d (side (lineAt d k)) s) (sized d k j z l),
+    ))
 
 -- and so are its revised ones, which T adds up
 pub revised-payment-within : (d : List ℕ) (k s : ℕ) → SizedLine d k → s < 5 → Within (quantityMost * priceMost) (sumZ (stepCount (lineAt d k)) (stepRevised d s k))
 unfolding stepRevised paidChange changeOn
 revised-payment-within d k s z h =
     line-within d k s (stepRevised d s k) z h
-    (λ j l.
-      (revised-paid-most (stepOf d k j) s (sized d k j z l),
-      revised-taken-most (stepOf d k j) s (sized d k j z l)))
+    (λ j l. (
+      revised-paid-most (stepOf d k j) s (sized d k j z l),
+      revised-taken-most (stepOf d k j) s (sized d k j z l),
+    ))

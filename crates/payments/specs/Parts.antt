@@ -78,7 +78,7 @@ unfolding revised changeOn
 revised-minus x s =
     or-minus x s (revisedRate x s)
     ∙ revised-by (isPaid x s) (mi (initial x s)) (fall (onStep x) s) (givenBack x s (revisedRate x s)) (rate x s) (initial-minus x s)
-      (givenBack-most x s (rate x s) (revisedRate x s) (revisedRate-most x s))
+    (givenBack-most x s (rate x s) (revisedRate x s) (revisedRate-most x s))
 
 -- "Revised" takes back at most what "Initial" does
 revised-le : (t : Bool) (i d g n : ℕ) → i ≡ cond t d 0 * n → g ≤ d * n → cond t g 0 ≤ i
@@ -105,9 +105,10 @@ sharedTotal p = cond (p .differs) (pl (p .total)) 0
 -- a pooled payment: revised less a share of T, and at least the initial
 pooled-parts : (i r t : ℤ) (d b : ℕ) → ltZ (pos 0) t ≡ true → ltZ i (pos 0) ≡ true → pl r ≡ pl i → (pl (maxZ i (r -ℤ quotZ (t *ℤ pos d) (pos b))) ≡ pl i) × (mi (maxZ i (r -ℤ quotZ (t *ℤ pos d) (pos b))) ≡ min (mi i) (mi r + pl t * d / b))
 pooled-parts i r (pos t) d b e k h =
-    let q = r -ℤ pos (t * d / b) in
-    (omega (arith, pl-max i q, sub-read r (pos (t * d / b)), ltZ-yes i (pos 0) k, apart i, apart q),
-    omega (arith, mi-max i q, sub-read r (pos (t * d / b)), ltZ-yes i (pos 0) k, apart i, apart q))
+    let q = r -ℤ pos (t * d / b) in (
+      omega (arith, pl-max i q, sub-read r (pos (t * d / b)), ltZ-yes i (pos 0) k, apart i, apart q),
+      omega (arith, mi-max i q, sub-read r (pos (t * d / b)), ltZ-yes i (pos 0) k, apart i, apart q),
+    )
 pooled-parts i r (negsuc t) d b e k h = absurd (false≢true e)
 
 final-by : (i m r t : ℤ) (d b : ℕ) → pl m ≡ pl i → pl r ≡ pl i → (first flagged a c n : Bool) → ltZ (pos 0) t ≡ a → ltZ i (pos 0) ≡ c → (pl (cond first i (cond flagged m (cond (a && c && n) (maxZ i (r -ℤ quotZ (t *ℤ pos d) (pos b))) r))) ≡ pl i) × (mi (cond first i (cond flagged m (cond (a && c && n) (maxZ i (r -ℤ quotZ (t *ℤ pos d) (pos b))) r))) ≡ cond first (mi i) (cond flagged (mi m) (cond (a && c && n) (min (mi i) (mi r + pl t * d / b)) (mi r))))
@@ -158,4 +159,4 @@ final-minus x claw s p =
     (eqb s 0 || eqb claw 0) (eqb (at (x .flag) s) 1) (ltZ (pos 0) (p .total)) (ltZ (initial x s) (pos 0)) (p .differs) refl refl
     .1
     ∙ rw (total-test (p .total), below-test (initial x s), shared-by (p .differs) (pl (p .total)) (mi (initial x s)) (fall (onStep x) s) (p .base) (mi (revised x s)))
-      (first-by (eqb s 0) (eqb claw 0) (mi (initial x s)) _)
+    (first-by (eqb s 0) (eqb claw 0) (mi (initial x s)) _)

@@ -62,14 +62,15 @@ unfolding matchedAt
 part-most x s zero b f h = rw (sum-none (matchedAt x s f)) (omega arith)
 part-most x s (suc n) b f h =
     let m = matched (onStep x) s in
-    omega
-    (arith,
-    sum-suc n (matchedAt x s f),
-    sum-suc n m,
-    part-most x s n b f h,
-    mul-le-mul-left (m n) (h n),
-    add-mul (sumTo n m) (m n) b,
-    mathlib.Core.Path.ap (λ (k : ℕ). k * b) (sum-suc n m))
+    omega (
+      arith,
+      sum-suc n (matchedAt x s f),
+      sum-suc n m,
+      part-most x s n b f h,
+      mul-le-mul-left (m n) (h n),
+      add-mul (sumTo n m) (m n) b,
+      mathlib.Core.Path.ap (λ (k : ℕ). k * b) (sum-suc n m),
+    )
 
 -- all of them give back at most the fall at the greatest rate
 pub givenBack-most : (x : Step) (s b : ℕ) (f : ℕ → ℕ) → ((r : ℕ) → f r ≤ b) → givenBack x s f ≤ fall (onStep x) s * b

@@ -87,7 +87,8 @@ pricing-adds-up d k s h e b = totals-add-up (pricingTotal (lineAt d k)) (lineAt 
 pub constrained-adds-up : (d : List ℕ) (k s : ℕ) → s < 5 → RisingEnds (lineAt d k) → operatingTotal (lineAt d k) s ≤ greatestBreak (lineAt d k) → sumTo (stepCount (lineAt d k)) (stepConstrained d k s) ≤ greatestBreak (lineAt d k)
 unfolding stepConstrained stepOperating
 constrained-adds-up d k s h e b =
-    omega
-    (arith,
-    sum-le (stepCount (lineAt d k)) (stepConstrained d k s) (stepOperating d k s) (λ j l. onStep-most (stepOf d k j) s h),
-    operating-adds-up d k s h e b)
+    omega (
+      arith,
+      sum-le (stepCount (lineAt d k)) (stepConstrained d k s) (stepOperating d k s) (λ j l. onStep-most (stepOf d k j) s h),
+      operating-adds-up d k s h e b,
+    )

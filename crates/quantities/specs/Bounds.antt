@@ -61,11 +61,12 @@ msiqOn-most x s h =
 pub onStep-most : (x : Step) (s : ℕ) → s < 5 → at (onStep x) s ≤ operatingOn x s
 unfolding onStep constrainedOn
 onStep-most x s h =
-    omega
-    (arith,
-    at-five (constrainedOn x) s h,
-    constrained-most (five (operatingOn x)) (five (aginoOn x)) (five (msiqOn x)) s,
-    at-five (operatingOn x) s h)
+    omega (
+      arith,
+      at-five (constrainedOn x) s h,
+      constrained-most (five (operatingOn x)) (five (aginoOn x)) (five (msiqOn x)) s,
+      at-five (operatingOn x) s h,
+    )
 
 -- C is at most the step's upper end
 pub onStep-upper : (x : Step) (s : ℕ) → at (onStep x) s ≤ x .upper

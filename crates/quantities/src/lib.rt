@@ -1,8 +1,8 @@
 // Document 01, "Quantities": allocation to a step, AGINO, MSIQ and constrained on, each for the five schedules at once.
 
-use numbers::{less, lesser};
+use numbers::less;
+use numbers::lesser;
 use rules::Step;
-
 ghost use mathlib.Core.Path.{_≡_};
 ghost use mathlib.Core.Bool.{cond};
 ghost use Prim.Native.Nat.{_-_, min};

@@ -12,7 +12,7 @@ use Rattle.matching.proofs.match_table.Tie as tie
 
 returns : tie.Need-returns
 unfolding matchRow matched earlier before
-returns c = 
+returns c =
     let c₀ = c .before .before .before .before .before .before .before .before .before .before .args .t1 in
     let e₁ = entering c₀ 0 (holding-none c₀ (c .before .before .before .before .before .before .before .before .before .empty .result)) (c .before .before .before .before .before .before .before .before .enter .ensures) in
     let e₂ = entering c₀ 1 (e₁ .holding (omega arith)) (c .before .before .before .before .before .before .before .enter2 .ensures) in

@@ -23,10 +23,11 @@ div-result-2 c = search needs
 
 add-result : tie.Need-add-result
 add-result c =
-    omega
-    (arith,
-    share-is (c .args .t) (c .args .d) (c .args .b) (c .pre .0),
-    share-most (c .args .t) (c .args .d) (c .args .b) (c .pre .1))
+    omega (
+      arith,
+      share-is (c .args .t) (c .args .d) (c .args .b) (c .pre .0),
+      share-most (c .args .t) (c .args .d) (c .args .b) (c .pre .1),
+    )
 
 returns : tie.Need-returns
 returns c = share-is (c .args .t) (c .args .d) (c .args .b) (c .pre .0)

@@ -7,7 +7,7 @@ use Rattle.payments.proofs.differing.Tie as tie
 
 returns : tie.Need-returns
 unfolding differIn
-returns c = 
+returns c =
     five-is (differIn (c .before .before .before .before .before .args .t1) (c .before .before .before .before .before .args .t2))
     (c .before .before .before .before .differ .ensures)
     (c .before .before .before .differ2 .ensures)

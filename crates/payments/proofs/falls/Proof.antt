@@ -9,7 +9,7 @@ use Rattle.payments.proofs.falls.Tie as tie
 
 returns : tie.Need-returns
 unfolding fall earlier before
-returns c = 
+returns c =
     five-is (fall (c .before .before .before .before .args .t1))
     (omega arith)
     (c .before .before .before .less .ensures)

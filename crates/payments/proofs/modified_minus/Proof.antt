@@ -14,31 +14,31 @@ use Rattle.payments.proofs.modified_minus.Statement.{statement}
 use Rattle.payments.proofs.modified_minus.Tie as tie
 
 given-if-taken-requires : tie.Need-given-if-taken-requires
-given-if-taken-requires c κs = 
+given-if-taken-requires c κs =
     let x = c .before .args .x in
     let z = c .before .pre .0 in
     given-fits x 1 (rate x) (omega arith) (ap (λ (t : List (List ℕ)). getD t 1 []) (c .before .pre .1)) (c .before .pre .2) z (λ r. rate-most x r z)
 
 given-if-taken-requires-2 : tie.Need-given-if-taken-requires-2
-given-if-taken-requires-2 c κs = 
+given-if-taken-requires-2 c κs =
     let x = c .before .before .before .args .x in
     let z = c .before .before .before .pre .0 in
     given-fits x 2 (rate x) (omega arith) (ap (λ (t : List (List ℕ)). getD t 2 []) (c .before .before .before .pre .1)) (c .before .before .before .pre .2) z (λ r. rate-most x r z)
 
 given-if-taken-requires-3 : tie.Need-given-if-taken-requires-3
-given-if-taken-requires-3 c κs = 
+given-if-taken-requires-3 c κs =
     let x = c .before .before .before .before .before .args .x in
     let z = c .before .before .before .before .before .pre .0 in
     given-fits x 3 (rate x) (omega arith) (ap (λ (t : List (List ℕ)). getD t 3 []) (c .before .before .before .before .before .pre .1)) (c .before .before .before .before .before .pre .2) z (λ r. rate-most x r z)
 
 given-if-taken-requires-4 : tie.Need-given-if-taken-requires-4
-given-if-taken-requires-4 c κs = 
+given-if-taken-requires-4 c κs =
     let x = c .before .before .before .before .before .before .before .args .x in
     let z = c .before .before .before .before .before .before .before .pre .0 in
     given-fits x 4 (rate x) (omega arith) (ap (λ (t : List (List ℕ)). getD t 4 []) (c .before .before .before .before .before .before .before .pre .1)) (c .before .before .before .before .before .before .before .pre .2) z (λ r. rate-most x r z)
 
 returns : tie.Need-returns
-returns c = 
+returns c =
     let x = c .before .before .before .before .before .before .before .before .args .x in
     let t = c .before .before .before .before .before .before .before .before .pre .1 in
     let f = c .before .before .before .before .before .before .before .before .pre .2 in

@@ -7,7 +7,7 @@ use Rattle.payments.proofs.only_paid.Tie as tie
 
 returns : tie.Need-returns
 unfolding onlyPaid
-returns c = 
+returns c =
     five-is (onlyPaid (c .before .before .before .before .before .args .t1) (c .before .before .before .before .before .args .t2))
     (c .before .before .before .before .if-paid .ensures)
     (c .before .before .before .if-paid2 .ensures)

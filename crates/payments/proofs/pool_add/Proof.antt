@@ -20,7 +20,7 @@ add-counts-requires c κs = c .before .before .before .before .before .before .b
 
 returns : tie.Need-returns
 unfolding poolSum
-returns c = 
+returns c =
     λ i.
     record {
       plus = c .before .before .before .before .add-rows .ensures i;

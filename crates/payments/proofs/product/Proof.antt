@@ -6,7 +6,7 @@ use Rattle.payments.proofs.product.Statement.{statement}
 use Rattle.payments.proofs.product.Tie as tie
 
 mul-result : tie.Need-mul-result
-mul-result c = 
+mul-result c =
     omega (arith, mul-le-mul {n₁ = c .args .a} {m₁ = c .args .b} {n₂ = 4294967295} {m₂ = 4294967295} (omega arith) (omega arith))
 
 pub product-spec : {M : Type 1} → statement M

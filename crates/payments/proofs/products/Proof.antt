@@ -7,7 +7,7 @@ use Rattle.payments.proofs.products.Tie as tie
 
 returns : tie.Need-returns
 unfolding productIn
-returns c = 
+returns c =
     five-is (productIn (c .before .before .before .before .before .args .t1) (c .before .before .before .before .before .args .t2))
     (c .before .before .before .before .product .ensures)
     (c .before .before .before .product2 .ensures)

@@ -7,7 +7,7 @@ use Rattle.payments.proofs.rates.Tie as tie
 
 returns : tie.Need-returns
 unfolding rate
-returns c = 
+returns c =
     five-is (rate (c .before .before .before .before .before .before .before .args .x))
     (c .before .before .before .before .excess .ensures)
     (c .before .before .before .excess2 .ensures)

@@ -14,35 +14,35 @@ use Rattle.payments.proofs.revised_minus.Tie as tie
 
 given-if-paid-requires : tie.Need-given-if-paid-requires
 unfolding revisedRate revisedAt
-given-if-paid-requires c κs = 
+given-if-paid-requires c κs =
     let x = c .before .before .before .before .before .args .x in
     let z = c .before .before .before .before .before .pre .0 in
     given-fits x 1 (revisedRate x 1) (omega arith) (ap (λ (t : List (List ℕ)). getD t 1 []) (c .before .before .before .before .before .pre .1)) (c .revised-rates .ensures) z (revised-rate-most x 1 z)
 
 given-if-paid-requires-2 : tie.Need-given-if-paid-requires-2
 unfolding revisedRate revisedAt
-given-if-paid-requires-2 c κs = 
+given-if-paid-requires-2 c κs =
     let x = c .before .before .before .before .before .before .before .before .args .x in
     let z = c .before .before .before .before .before .before .before .before .pre .0 in
     given-fits x 2 (revisedRate x 2) (omega arith) (ap (λ (t : List (List ℕ)). getD t 2 []) (c .before .before .before .before .before .before .before .before .pre .1)) (c .revised-rates2 .ensures) z (revised-rate-most x 2 z)
 
 given-if-paid-requires-3 : tie.Need-given-if-paid-requires-3
 unfolding revisedRate revisedAt
-given-if-paid-requires-3 c κs = 
+given-if-paid-requires-3 c κs =
     let x = c .before .before .before .before .before .before .before .before .before .before .before .args .x in
     let z = c .before .before .before .before .before .before .before .before .before .before .before .pre .0 in
     given-fits x 3 (revisedRate x 3) (omega arith) (ap (λ (t : List (List ℕ)). getD t 3 []) (c .before .before .before .before .before .before .before .before .before .before .before .pre .1)) (c .revised-rates3 .ensures) z (revised-rate-most x 3 z)
 
 given-if-paid-requires-4 : tie.Need-given-if-paid-requires-4
 unfolding revisedRate revisedAt
-given-if-paid-requires-4 c κs = 
+given-if-paid-requires-4 c κs =
     let x = c .before .before .before .before .before .before .before .before .before .before .before .before .before .before .args .x in
     let z = c .before .before .before .before .before .before .before .before .before .before .before .before .before .before .pre .0 in
     given-fits x 4 (revisedRate x 4) (omega arith) (ap (λ (t : List (List ℕ)). getD t 4 []) (c .before .before .before .before .before .before .before .before .before .before .before .before .before .before .pre .1)) (c .revised-rates4 .ensures) z (revised-rate-most x 4 z)
 
 returns : tie.Need-returns
 unfolding revisedRate revisedAt
-returns c = 
+returns c =
     let x = c .before .before .before .before .before .before .before .before .before .before .before .before .before .before .before .args .x in
     let t = c .before .before .before .before .before .before .before .before .before .before .before .before .before .before .before .pre .1 in
     five-is (minusOf (revised x))

@@ -7,7 +7,7 @@ use Rattle.payments.proofs.revised_rates.Tie as tie
 
 returns : tie.Need-returns
 unfolding revisedAt
-returns c = 
+returns c =
     let g = c .before .before .before .before .before .before .before .before .before .before .args in
     five-is (revisedAt (g .side) (g .t2) (g .own) (g .market))
     (rw (← c .before .before .before .before .before .before .before .before .before .milder .ensures) (c .before .before .before .before .before .before .before .before .excess .ensures))

@@ -9,7 +9,7 @@ use Rattle.payments.proofs.rises.Tie as tie
 
 returns : tie.Need-returns
 unfolding rise earlier before
-returns c = 
+returns c =
     five-is (rise (c .before .before .before .before .args .t1))
     (omega arith)
     (c .before .before .before .less .ensures)

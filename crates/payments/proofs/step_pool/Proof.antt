@@ -15,7 +15,7 @@ revised-minus-requires c κs = (c .before .before .before .before .before .befor
 
 returns : tie.Need-returns
 unfolding stepPool
-returns c = 
+returns c =
     let x = c .before .before .before .before .before .before .before .before .before .before .before .before .before .before .args .x in
     let c₀ = c .before .before .before .before .before .before .before .before .before .before .before .before .before .constrained-on .ensures in
     let rate₀ = c .before .before .before .before .before .before .before .before .before .before .before .rates .ensures in

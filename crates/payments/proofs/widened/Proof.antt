@@ -6,7 +6,7 @@ use Rattle.payments.proofs.widened.Statement.{statement}
 use Rattle.payments.proofs.widened.Tie as tie
 
 returns : tie.Need-returns
-returns c = 
+returns c =
     five-is (at (c .before .before .before .before .before .args .t1))
     (c .before .before .before .before .wide .ensures)
     (c .before .before .before .wide2 .ensures)

@@ -7,7 +7,7 @@ use Rattle.quantities.proofs.agino.Statement.{statement}
 use Rattle.quantities.proofs.agino.Tie as tie
 
 returns : tie.Need-returns
-returns c = 
+returns c =
     let o = c .before .before .before .before .before .before .before .before .before .before .args .t1 in
     let a = c .before .before .before .before .before .before .before .before .before .before .args .a in
     let last = c .before .before .before .before .before .before .before .before .before .less .ensures in

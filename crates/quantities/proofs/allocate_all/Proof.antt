@@ -7,7 +7,7 @@ use Rattle.quantities.proofs.allocate_all.Tie as tie
 
 returns : tie.Need-returns
 unfolding allocatedIn
-returns c = 
+returns c =
     five-is (allocatedIn (c .before .before .before .before .before .args .t1) (c .before .before .before .before .before .args .l) (c .before .before .before .before .before .args .u))
     (c .before .before .before .before .allocate .ensures)
     (c .before .before .before .allocate2 .ensures)

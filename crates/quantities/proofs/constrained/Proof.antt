@@ -7,7 +7,7 @@ use Rattle.quantities.proofs.constrained.Tie as tie
 
 returns : tie.Need-returns
 unfolding constrained
-returns c = 
+returns c =
     five-is (constrained (c .before .before .before .before .before .args .t1) (c .before .before .before .before .before .args .t2) (c .before .before .before .before .before .args .t3))
     (c .before .before .before .before .constrained-in .ensures)
     (c .before .before .before .constrained-in2 .ensures)

@@ -8,7 +8,7 @@ use Rattle.quantities.proofs.msiq.Tie as tie
 
 returns : tie.Need-returns
 unfolding msiq
-returns c = 
+returns c =
     let g = c .before .before .before .before .args in
     let q₄ = msiq-last (g .side) (g .t2) (g .t3) (g .t4) 4 in
     let q₃ = msiq-step (g .side) (g .t2) (g .t3) (g .t4) 3 0 q₄ (c .before .before .before .msiq-before .ensures) in

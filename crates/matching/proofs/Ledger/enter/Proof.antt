@@ -15,7 +15,7 @@ sub-t33 : tie.Need-sub-t33
 sub-t33 c = omega (arith, c .before .before .lesser3 .ensures)
 
 returns : tie.Need-returns
-returns c = 
+returns c =
     enter-is (c .before .before .before .before .before .before .before .args .self) (c .before .before .before .before .before .before .before .args .before) (c .before .before .before .before .before .before .before .args .now)
     (search needs)
     (c .less2 .ensures)
