@@ -4,3 +4,4 @@ pub mod Parts
 pub mod Kinds
 pub mod Amounts
 pub mod Lines
+pub mod Pools

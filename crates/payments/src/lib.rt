@@ -148,10 +148,10 @@ pub fn falls(c: [u32; 5]) -> [u32; 5]
 fn if_paid(paid: u32, q: u32) -> u32
     ensures { λ r. ⌜ r ≡ cond (eqb paid 1) q 0 ⌝ }
 {
-    if paid == 1 {
-        return q;
+    if paid != 1 {
+        return 0;
     }
-    0
+    q
 }
 
 // Quantities where the step is paid, else 0.
