@@ -15,6 +15,7 @@ use Rattle.rules.specs.Matching.{rise, fall}
 use Rattle.rules.specs.Payments.{Pool, bit, onStep, isPaid, stepOf, stepRevised, ofSide, lineRevised, poolTotal, paidChange, lineChange, poolChange, poolBase, stepDiffers, lineDiffers, poolDiffers, poolOf, revised, initial}
 use Rattle.laws.specs.Folds.{sum-none, sum-suc, sum-same, sumZ-none, sumZ-suc, some-none, some-suc}
 use Rattle.laws.specs.Ints.{pl, mi, Split, split-none, split-add, split-own, split-is}
+use Rattle.rules.specs.declared.Step.{Step}
 use Rattle.numbers.specs.Fives.{at-five, five-same}
 use Rattle.payments.specs.declared.SidePool.{SidePool}
 use Rattle.payments.specs.Parts.{changeOn}
@@ -118,3 +119,56 @@ module _ (d : List ℕ) (sd s : ℕ) (h : s < 5) where
       (at-five (rowTo (λ p. p .plus) (lineCount d) (sidePart d sd)) s h,
       at-five (rowTo (λ p. p .minus) (lineCount d) (sidePart d sd)) s h)
       (sym (split-is (split-sum (lineCount d) (lineRevised d sd s) (λ k. at (sidePart d sd k .plus) s) (λ k. at (sidePart d sd k .minus) s) (λ k. line-split-by k (ofSide d sd k)))))
+
+  -- a row of changes, the rises or the falls
+  change-by : (row : SidePool → List ℕ) (change : List ℕ → ℕ → ℕ) → ((x : Step) → row (stepPool x) ≡ five (changeOn change x)) → ((n : ℕ) (f : ℕ → SidePool) → row (poolTo n f) ≡ five (rowTo row n f)) → row noPool ≡ five none → (k : ℕ) (t : Bool) → at (row (cond t (linePool d k) noPool)) s ≡ cond t (sumTo (stepCount (lineAt d k)) (paidChange change d s k)) 0
+  unfolding linePool rowTo poolOfStep paidChange changeOn none
+  change-by row change steps sums none-is k true =
+      rw (sums (stepCount (lineAt d k)) (poolOfStep d k), at-five (rowTo row (stepCount (lineAt d k)) (poolOfStep d k)) s h)
+      (sum-same (stepCount (lineAt d k)) (λ j. at (row (poolOfStep d k j)) s) (paidChange change d s k)
+      (λ j l. rw (steps (stepOf d k j)) (at-five (changeOn change (stepOf d k j)) s h)))
+  change-by row change steps sums none-is k false = rw none-is (at-five none s h)
+
+  change-is : (row : SidePool → List ℕ) (change : List ℕ → ℕ → ℕ) → ((x : Step) → row (stepPool x) ≡ five (changeOn change x)) → ((n : ℕ) (f : ℕ → SidePool) → row (poolTo n f) ≡ five (rowTo row n f)) → row noPool ≡ five none → at (row (sidePool d sd)) s ≡ poolChange change d sd s
+  unfolding sidePool rowTo poolChange lineChange sidePart
+  change-is row change steps sums none-is =
+      rw (sums (lineCount d) (sidePart d sd), at-five (rowTo row (lineCount d) (sidePart d sd)) s h)
+      (sum-same (lineCount d) (λ k. at (row (sidePart d sd k)) s) (lineChange change d sd s)
+      (λ k l. change-by row change steps sums none-is k (ofSide d sd k)))
+
+  base-is : max (at (sidePool d sd .rises) s) (at (sidePool d sd .falls) s) ≡ poolBase d sd s
+  unfolding poolBase stepPool poolTo noPool
+  base-is =
+      rw
+      (change-is (λ p. p .rises) rise (λ x. refl) (λ n f. refl) refl,
+      change-is (λ p. p .falls) fall (λ x. refl) (λ n f. refl) refl)
+
+  -- whether some revised differs
+  bit-test : (t : Bool) → ltb 0 (bit t) ≡ t
+  bit-test true = refl
+  bit-test false = refl
+
+  step-differs : (k j : ℕ) → ltb 0 (at (poolOfStep d k j .differs) s) ≡ stepDiffers d s k j
+  unfolding poolOfStep stepPool differsOn stepDiffers
+  step-differs k j =
+      rw (at-five (differsOn (stepOf d k j)) s h)
+      (bit-test (not (eqbZ (revised (stepOf d k j) s) (initial (stepOf d k j) s))))
+
+  line-differs-by : (k : ℕ) (t : Bool) → ltb 0 (at (cond t (linePool d k) noPool .differs) s) ≡ t && someTo (stepCount (lineAt d k)) (stepDiffers d s k)
+  unfolding linePool poolTo rowTo noPool none
+  line-differs-by k true =
+      rw (at-five (rowTo (λ p. p .differs) (stepCount (lineAt d k)) (poolOfStep d k)) s h)
+      (some-sum (stepCount (lineAt d k)) (λ j. at (poolOfStep d k j .differs) s) (stepDiffers d s k) (step-differs k))
+  line-differs-by k false = rw (at-five none s h)
+
+  differs-is : ltb 0 (at (sidePool d sd .differs) s) ≡ poolDiffers d sd s
+  unfolding sidePool poolTo rowTo poolDiffers lineDiffers sidePart
+  differs-is =
+      rw (at-five (rowTo (λ p. p .differs) (lineCount d) (sidePart d sd)) s h)
+      (some-sum (lineCount d) (λ k. at (sidePart d sd k .differs) s) (lineDiffers d sd s) (λ k. line-differs-by k (ofSide d sd k)))
+
+-- the side's pool is that of `rules`, in each schedule
+pub side-pool-is : (d : List ℕ) (sd s : ℕ) → s < 5 → poolAt (sidePool d sd) s ≡ poolOf d sd s
+unfolding poolAt poolOf
+side-pool-is d sd s h =
+    λ i. record { total = total-is d sd s h i; base = base-is d sd s h i; differs = differs-is d sd s h i }
