@@ -102,20 +102,20 @@ some-by : (d n : ℕ) → 0 < d * n → 0 < d
 some-by zero n h = omega (arith, zero-mul n)
 some-by (suc d) n h = omega arith
 
-sharing-at : (x : Step) (p : SidePool) (s : ℕ) → Sized x → InPool x p → Sharing (mi (initial x s)) (mi (revised x s)) (changeOn fall x s) (totalIn p s) (baseIn p s)
+sharing-at : (x : Step) (p : SidePool) (s : ℕ) → s < 5 → Sized x → InPool x p → Sharing (mi (initial x s)) (mi (revised x s)) (changeOn fall x s) (totalIn p s) (baseIn p s)
 unfolding totalIn baseIn
-sharing-at x p s z k =
+sharing-at x p s l z k =
     record {
-      part = omega (arith, k .within s);
-      some = λ h. omega (arith, k .within s, some-by (changeOn fall x s) (rate x s) (omega (arith, initial-minus x s)));
-      base = omega (arith, k .rising s, k .falling s);
+      part = omega (arith, k .within s l);
+      some = λ h. omega (arith, k .within s l, some-by (changeOn fall x s) (rate x s) (omega (arith, initial-minus x s)));
+      base = omega (arith, k .rising s l, k .falling s l);
       fall = omega (arith, fall-within x s z);
       fits =
           omega (
             arith,
             revised-most x s,
             initial-within x s z .taken,
-            k .paying s,
+            k .paying s l,
             total-most (at (p .differs) s) (at (p .plus) s) (at (p .minus) s),
           );
     }
@@ -135,7 +135,7 @@ sharing x p w z k s h =
       at-five (totalIn p) s h,
       at-five (baseIn p) s h,
     )
-    (sharing-at x p s z k)
+    (sharing-at x p s h z k)
 
 -- money of payments within the limits is held by signed numbers, and is those payments
 pub signable : (f : ℕ → ℤ) → ((s : ℕ) → Within (quantityMost * priceMost) (f s)) → Signable (moneyOf f)

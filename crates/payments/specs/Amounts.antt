@@ -127,7 +127,7 @@ pub record Sharing (i r d t b : ℕ) : Type 0 where
 
 -- a pool with the step in it, of at most 64 lines within the limits
 pub record InPool (x : Step) (p : SidePool) : Type 0 where
-  pub within : (s : ℕ) → changeOn fall x s ≤ at (p .falls) s
-  pub rising : (s : ℕ) → at (p .rises) s ≤ mostLines * quantityMost
-  pub falling : (s : ℕ) → at (p .falls) s ≤ mostLines * quantityMost
-  pub paying : (s : ℕ) → at (p .plus) s ≤ mostLines * (quantityMost * priceMost)
+  pub within : (s : ℕ) → s < 5 → changeOn fall x s ≤ at (p .falls) s
+  pub rising : (s : ℕ) → s < 5 → at (p .rises) s ≤ mostLines * quantityMost
+  pub falling : (s : ℕ) → s < 5 → at (p .falls) s ≤ mostLines * quantityMost
+  pub paying : (s : ℕ) → s < 5 → at (p .plus) s ≤ mostLines * (quantityMost * priceMost)

@@ -5,3 +5,4 @@ pub mod Kinds
 pub mod Amounts
 pub mod Lines
 pub mod Pools
+pub mod PoolSizes

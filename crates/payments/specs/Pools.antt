@@ -55,10 +55,11 @@ pool-more n f =
       differs = row-more (λ p. p .differs) n f i;
     }
 
--- nothing pooled
-none : ℕ → ℕ
+-- a row of zeros
+unfoldable pub none : ℕ → ℕ
 none s = 0
 
+-- nothing pooled
 unfoldable pub noPool : SidePool
 unfolding none
 noPool = record { plus = five none; minus = five none; rises = five none; falls = five none; differs = five none }
@@ -106,18 +107,20 @@ module _ (d : List ℕ) (sd s : ℕ) (h : s < 5) where
   line-split-by : (k : ℕ) (t : Bool) → Split (cond t (sumZ (stepCount (lineAt d k)) (stepRevised d s k)) (pos 0)) (at (cond t (linePool d k) noPool .plus) s) (at (cond t (linePool d k) noPool .minus) s)
   unfolding linePool poolTo rowTo noPool none
   line-split-by k true =
-      rw
-      (at-five (rowTo (λ p. p .plus) (stepCount (lineAt d k)) (poolOfStep d k)) s h,
-      at-five (rowTo (λ p. p .minus) (stepCount (lineAt d k)) (poolOfStep d k)) s h)
+      rw (
+        at-five (rowTo (λ p. p .plus) (stepCount (lineAt d k)) (poolOfStep d k)) s h,
+        at-five (rowTo (λ p. p .minus) (stepCount (lineAt d k)) (poolOfStep d k)) s h,
+      )
       (split-sum (stepCount (lineAt d k)) (stepRevised d s k) (λ j. at (poolOfStep d k j .plus) s) (λ j. at (poolOfStep d k j .minus) s) (step-split k))
   line-split-by k false = rw (at-five none s h) split-none
 
   total-is : subℕ (at (sidePool d sd .plus) s) (at (sidePool d sd .minus) s) ≡ poolTotal d sd s
   unfolding sidePool poolTo rowTo poolTotal lineRevised sidePart
   total-is =
-      rw
-      (at-five (rowTo (λ p. p .plus) (lineCount d) (sidePart d sd)) s h,
-      at-five (rowTo (λ p. p .minus) (lineCount d) (sidePart d sd)) s h)
+      rw (
+        at-five (rowTo (λ p. p .plus) (lineCount d) (sidePart d sd)) s h,
+        at-five (rowTo (λ p. p .minus) (lineCount d) (sidePart d sd)) s h,
+      )
       (sym (split-is (split-sum (lineCount d) (lineRevised d sd s) (λ k. at (sidePart d sd k .plus) s) (λ k. at (sidePart d sd k .minus) s) (λ k. line-split-by k (ofSide d sd k)))))
 
   -- a row of changes, the rises or the falls
@@ -136,12 +139,17 @@ module _ (d : List ℕ) (sd s : ℕ) (h : s < 5) where
       (sum-same (lineCount d) (λ k. at (row (sidePart d sd k)) s) (lineChange change d sd s)
       (λ k l. change-by row change steps sums none-is k (ofSide d sd k)))
 
+  pub rises-are : at (sidePool d sd .rises) s ≡ poolChange rise d sd s
+  unfolding stepPool poolTo noPool
+  rises-are = change-is (λ p. p .rises) rise (λ x. refl) (λ n f. refl) refl
+
+  pub falls-are : at (sidePool d sd .falls) s ≡ poolChange fall d sd s
+  unfolding stepPool poolTo noPool
+  falls-are = change-is (λ p. p .falls) fall (λ x. refl) (λ n f. refl) refl
+
   base-is : max (at (sidePool d sd .rises) s) (at (sidePool d sd .falls) s) ≡ poolBase d sd s
-  unfolding poolBase stepPool poolTo noPool
-  base-is =
-      rw
-      (change-is (λ p. p .rises) rise (λ x. refl) (λ n f. refl) refl,
-      change-is (λ p. p .falls) fall (λ x. refl) (λ n f. refl) refl)
+  unfolding poolBase
+  base-is = rw (rises-are, falls-are)
 
   -- whether some revised differs
   bit-test : (t : Bool) → ltb 0 (bit t) ≡ t
