@@ -90,7 +90,7 @@ pub record Addable (a b : SidePool) : Type 0 where
   pub minus : (s : ℕ) → sumIn (a .minus) (b .minus) s < 2 ^ 64
   pub rises : (s : ℕ) → sumIn (a .rises) (b .rises) s < 2 ^ 64
   pub falls : (s : ℕ) → sumIn (a .falls) (b .falls) s < 2 ^ 64
-  pub differs : (s : ℕ) → sumIn (a .differs) (b .differs) s < 2 ^ 32
+  pub differs : (s : ℕ) → sumIn (a .differs) (b .differs) s < 2 ^ 64
 
 -- T, B and whether some revised differs, in schedule s
 unfoldable pub poolAt : SidePool → ℕ → Pool

@@ -61,7 +61,7 @@ pub struct SidePool {
     pub rises: [u64; 5],
     pub falls: [u64; 5],
     // how many revised payments differ from their initial ones
-    pub differs: [u32; 5],
+    pub differs: [u64; 5],
 }
 
 fn product(a: u32, b: u32) -> u64
@@ -259,7 +259,7 @@ fn modified_minus(x: Step, t: [[u32; 5]; 5], rate: [u32; 5], initial: [u64; 5]) 
 }
 
 // 1 where two numbers differ.
-fn differ(a: u64, b: u64) -> u32
+fn differ(a: u64, b: u64) -> u64
     ensures { λ r. ⌜ r ≡ paper.bit (not (eqb a b)) ⌝ }
 {
     if a == b {
@@ -268,7 +268,7 @@ fn differ(a: u64, b: u64) -> u32
     1
 }
 
-fn differing(a: [u64; 5], b: [u64; 5]) -> [u32; 5]
+fn differing(a: [u64; 5], b: [u64; 5]) -> [u64; 5]
     ensures { λ r. ⌜ r ≡ five (differIn a b) ⌝ }
 {
     [
@@ -319,19 +319,6 @@ fn add_rows(a: [u64; 5], b: [u64; 5]) -> [u64; 5]
     ]
 }
 
-fn add_counts(a: [u32; 5], b: [u32; 5]) -> [u32; 5]
-    requires { ⌜ ((s : ℕ) → sumIn a b s < 2 ^ 32) ⌝ }
-    ensures { λ r. ⌜ r ≡ five (sumIn a b) ⌝ }
-{
-    [
-        a[0] + b[0],
-        a[1] + b[1],
-        a[2] + b[2],
-        a[3] + b[3],
-        a[4] + b[4],
-    ]
-}
-
 // Two pools, or two parts of one.
 pub fn pool_add(a: SidePool, b: SidePool) -> SidePool
     requires { ⌜ Addable a b ⌝ }
@@ -352,12 +339,12 @@ pub fn pool_add(a: SidePool, b: SidePool) -> SidePool
         minus: add_rows(minus, more_minus),
         rises: add_rows(rises, more_rises),
         falls: add_rows(falls, more_falls),
-        differs: add_counts(differs, more_differs),
+        differs: add_rows(differs, more_differs),
     }
 }
 
 // T of a schedule, or 0 where it isn't above 0 or nothing differs.
-fn shared_total(plus: u64, minus: u64, differs: u32) -> u64
+fn shared_total(plus: u64, minus: u64, differs: u64) -> u64
     ensures { λ r. ⌜ r ≡ cond (eqb differs 0) 0 (plus - minus) ⌝ }
 {
     if differs == 0 {
