@@ -1,5 +1,5 @@
 -- What a ledger of four places takes and leaves, and that it holds the open rises of `rules` from schedule to schedule.
-use Prim.Native.Nat.{ℕ, suc, _-_, _<_, min}
+use Prim.Native.Nat.{ℕ, suc, _-_, _≤_, _<_, min}
 use native.Mathlib.Omega.{arith}
 use mathlib.Core.Path.{_≡_, refl, sym, _∙_, ap}
 use mathlib.Core.List.{List, [], _∷_}
@@ -12,6 +12,10 @@ use Rattle.matching.specs.declared.Matched.{Matched}
 use Rattle.matching.specs.Ledgers.{entered, Holding}
 use Rattle.matching.specs.Takings.{takes-take, leaves-take}
 use Rattle.matching.specs.Balance.{matched-in}
+
+-- a match is at most the open rise
+pub match-most : {m : ℕ} (d u : ℕ) → m ≡ min d u → m ≤ u
+match-most d u e = omega arith
 
 -- the four matches of a fall d with the open rises l
 pub record Four (d : ℕ) (l : List ℕ) (m₀ m₁ m₂ m₃ : ℕ) : Type 0 where

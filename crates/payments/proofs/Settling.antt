@@ -56,9 +56,9 @@ unfolding poolAt baseIn
 finished x claw s p =
     final-minus x claw s (poolAt p s)
     ∙ rw (shared-total p s)
-      (ap (λ (n : ℕ). cond (eqb s 0) (mi (initial x s)) n)
-      (taken-fall claw (at (x .flag) s) (mi (initial x s)) (mi (revised x s)) (mi (modified x s)) (fall (onStep x) s) (changeOn fall x s) (totalIn p s)
-      (max (at (p .rises) s) (at (p .falls) s)) (paid-fall x s)))
+    (ap (λ (n : ℕ). cond (eqb s 0) (mi (initial x s)) n)
+    (taken-fall claw (at (x .flag) s) (mi (initial x s)) (mi (revised x s)) (mi (modified x s)) (fall (onStep x) s) (changeOn fall x s) (totalIn p s)
+    (max (at (p .rises) s) (at (p .falls) s)) (paid-fall x s)))
 
 -- the rows that the final payments are worked out from
 pub record Rows (x : Step) (p : SidePool) (i r m d t b : List ℕ) : Type 0 where
@@ -73,20 +73,21 @@ pub record Rows (x : Step) (p : SidePool) (i r m d t b : List ℕ) : Type 0 wher
 final-entry : (x : Step) (claw : ℕ) (p : SidePool) (s : ℕ) → s < 5 → takenIn claw (x .flag) (five (minusOf (initial x))) (five (minusOf (revised x))) (five (minusOf (modified x))) (five (changeOn fall x)) (five (totalIn p)) (five (baseIn p)) s ≡ minusOf (finalOn x claw p) s
 unfolding takenIn minusOf finalOn
 final-entry x claw p s h =
-    rw
-    (at-five (minusOf (initial x)) s h,
-    at-five (minusOf (revised x)) s h,
-    at-five (minusOf (modified x)) s h,
-    at-five (changeOn fall x) s h,
-    at-five (totalIn p) s h,
-    at-five (baseIn p) s h)
+    rw (
+      at-five (minusOf (initial x)) s h,
+      at-five (minusOf (revised x)) s h,
+      at-five (minusOf (modified x)) s h,
+      at-five (changeOn fall x) s h,
+      at-five (totalIn p) s h,
+      at-five (baseIn p) s h,
+    )
     (sym (finished x claw s p))
 
 pub final-row : (x : Step) (claw : ℕ) (p : SidePool) {i r m d t b q : List ℕ} → Rows x p i r m d t b → q ≡ five (takenIn claw (x .flag) i r m d t b) → q ≡ five (minusOf (finalOn x claw p))
 final-row x claw p w e =
     e
     ∙ rw (w .initials, w .reviseds, w .modifieds, w .falls, w .totals, w .bases)
-      (five-same (takenIn claw (x .flag) (five (minusOf (initial x))) (five (minusOf (revised x))) (five (minusOf (modified x))) (five (changeOn fall x)) (five (totalIn p)) (five (baseIn p))) (minusOf (finalOn x claw p)) (final-entry x claw p))
+    (five-same (takenIn claw (x .flag) (five (minusOf (initial x))) (five (minusOf (revised x))) (five (minusOf (modified x))) (five (changeOn fall x)) (five (totalIn p)) (five (baseIn p))) (minusOf (finalOn x claw p)) (final-entry x claw p))
 
 pub final-pays : (x : Step) (claw : ℕ) (p : SidePool) → five (plusOf (initial x)) ≡ five (plusOf (finalOn x claw p))
 unfolding plusOf finalOn
@@ -101,38 +102,40 @@ some-by : (d n : ℕ) → 0 < d * n → 0 < d
 some-by zero n h = omega (arith, zero-mul n)
 some-by (suc d) n h = omega arith
 
-sharing-at : (x : Step) (p : SidePool) (s : ℕ) → Sized x → InPool x p → Sharing (mi (initial x s)) (mi (revised x s)) (changeOn fall x s) (totalIn p s) (baseIn p s)
+sharing-at : (x : Step) (p : SidePool) (s : ℕ) → s < 5 → Sized x → InPool x p → Sharing (mi (initial x s)) (mi (revised x s)) (changeOn fall x s) (totalIn p s) (baseIn p s)
 unfolding totalIn baseIn
-sharing-at x p s z k =
+sharing-at x p s l z k =
     record {
-      part = omega (arith, k .within s);
-      some = λ h. omega (arith, k .within s, some-by (changeOn fall x s) (rate x s) (omega (arith, initial-minus x s)));
-      base = omega (arith, k .rising s, k .falling s);
+      part = omega (arith, k .within s l);
+      some = λ h. omega (arith, k .within s l, some-by (changeOn fall x s) (rate x s) (omega (arith, initial-minus x s)));
+      base = omega (arith, k .rising s l, k .falling s l);
       fall = omega (arith, fall-within x s z);
       fits =
-        omega
-        (arith,
-        revised-most x s,
-        initial-within x s z .taken,
-        k .paying s,
-        total-most (at (p .differs) s) (at (p .plus) s) (at (p .minus) s));
+          omega (
+            arith,
+            revised-most x s,
+            initial-within x s z .taken,
+            k .paying s l,
+            total-most (at (p .differs) s) (at (p .plus) s) (at (p .minus) s),
+          );
     }
 
 pub sharing : (x : Step) (p : SidePool) {i r m d t b : List ℕ} → Rows x p i r m d t b → Sized x → InPool x p → (s : ℕ) → s < 5 → Sharing (at i s) (at r s) (at d s) (at t s) (at b s)
 unfolding minusOf
 sharing x p w z k s h =
-    rw
-    (w .initials,
-    w .reviseds,
-    w .falls,
-    w .totals,
-    w .bases,
-    at-five (minusOf (initial x)) s h,
-    at-five (minusOf (revised x)) s h,
-    at-five (changeOn fall x) s h,
-    at-five (totalIn p) s h,
-    at-five (baseIn p) s h)
-    (sharing-at x p s z k)
+    rw (
+      w .initials,
+      w .reviseds,
+      w .falls,
+      w .totals,
+      w .bases,
+      at-five (minusOf (initial x)) s h,
+      at-five (minusOf (revised x)) s h,
+      at-five (changeOn fall x) s h,
+      at-five (totalIn p) s h,
+      at-five (baseIn p) s h,
+    )
+    (sharing-at x p s h z k)
 
 -- money of payments within the limits is held by signed numbers, and is those payments
 pub signable : (f : ℕ → ℤ) → ((s : ℕ) → Within (quantityMost * priceMost) (f s)) → Signable (moneyOf f)

@@ -90,7 +90,7 @@ pub record Addable (a b : SidePool) : Type 0 where
   pub minus : (s : ℕ) → sumIn (a .minus) (b .minus) s < 2 ^ 64
   pub rises : (s : ℕ) → sumIn (a .rises) (b .rises) s < 2 ^ 64
   pub falls : (s : ℕ) → sumIn (a .falls) (b .falls) s < 2 ^ 64
-  pub differs : (s : ℕ) → sumIn (a .differs) (b .differs) s < 2 ^ 32
+  pub differs : (s : ℕ) → sumIn (a .differs) (b .differs) s < 2 ^ 64
 
 -- T, B and whether some revised differs, in schedule s
 unfoldable pub poolAt : SidePool → ℕ → Pool
@@ -127,7 +127,7 @@ pub record Sharing (i r d t b : ℕ) : Type 0 where
 
 -- a pool with the step in it, of at most 64 lines within the limits
 pub record InPool (x : Step) (p : SidePool) : Type 0 where
-  pub within : (s : ℕ) → changeOn fall x s ≤ at (p .falls) s
-  pub rising : (s : ℕ) → at (p .rises) s ≤ mostLines * quantityMost
-  pub falling : (s : ℕ) → at (p .falls) s ≤ mostLines * quantityMost
-  pub paying : (s : ℕ) → at (p .plus) s ≤ mostLines * (quantityMost * priceMost)
+  pub within : (s : ℕ) → s < 5 → changeOn fall x s ≤ at (p .falls) s
+  pub rising : (s : ℕ) → s < 5 → at (p .rises) s ≤ mostLines * quantityMost
+  pub falling : (s : ℕ) → s < 5 → at (p .falls) s ≤ mostLines * quantityMost
+  pub paying : (s : ℕ) → s < 5 → at (p .plus) s ≤ mostLines * (quantityMost * priceMost)

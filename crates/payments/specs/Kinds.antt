@@ -75,6 +75,13 @@ taken-most x claw s p z =
     (taken-by (mi (initial x s)) (mi (revised x s)) (mi (modified x s)) (changeOn fall x s * priceMost) (eqb s 0) (eqb claw 0)
     (eqb (at (x .flag) s) 1) (ltb 0 (sharedTotal p) && ltb 0 (mi (initial x s))) (revised-most x s) (initial-most x s z) (modified-most x s z) _)
 
+pub revised-paid-most : (x : Step) (s : ℕ) → Sized x → pl (revised x s) ≤ changeOn rise x s * priceMost
+revised-paid-most x s z =
+    rw (revised-plus x s, initial-plus x s) (mul-le-mul-left (changeOn rise x s) (rate-most x s z))
+
+pub revised-taken-most : (x : Step) (s : ℕ) → Sized x → mi (revised x s) ≤ changeOn fall x s * priceMost
+revised-taken-most x s z = le-trans (revised-most x s) (initial-most x s z)
+
 -- an unpaid step has no payment of any kind
 unpaid-change : (x : Step) (s : ℕ) → isPaid x s ≡ false → (n : ℕ) → changeOn rise x s * n + changeOn fall x s * n ≡ 0
 unfolding changeOn

@@ -3,3 +3,6 @@ pub mod Sizes
 pub mod Parts
 pub mod Kinds
 pub mod Amounts
+pub mod Lines
+pub mod Pools
+pub mod PoolSizes

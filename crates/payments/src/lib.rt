@@ -2,10 +2,17 @@
 // Money is worked out as what is paid and what is taken back, and becomes signed at the end.
 
 use matching::match_table;
-use numbers::{greater, greater64, less, less64, lesser, lesser64, share, signed, wide};
+use numbers::greater;
+use numbers::greater64;
+use numbers::less;
+use numbers::less64;
+use numbers::lesser;
+use numbers::lesser64;
+use numbers::share;
+use numbers::signed;
+use numbers::wide;
 use quantities::constrained_on;
 use rules::Step;
-
 ghost use mathlib.Core.Path.{_≡_};
 ghost use mathlib.Core.Bool.{cond, not};
 ghost use Prim.Native.Nat.{ℕ, _+_, _*_, _-_, _<_, _≤_, _^_};
@@ -17,8 +24,26 @@ ghost use Rattle.matching.specs.Ledgers.{matchRow};
 ghost use Rattle.payments.specs.Sizes.{Sized};
 ghost use Rattle.payments.specs.Parts.{changeOn, takenBack};
 ghost use Rattle.payments.specs.Amounts.{
-    revisedAt, onlyPaid, productIn, sumIn, givenAt, differIn, moneyOf, minusOf, paymentOf, moneySum, stepPool, poolSum,
-    totalIn, baseIn, takenIn, finalOn, Sharing, InPool, Addable, Signable
+  revisedAt,
+  onlyPaid,
+  productIn,
+  sumIn,
+  givenAt,
+  differIn,
+  moneyOf,
+  minusOf,
+  paymentOf,
+  moneySum,
+  stepPool,
+  poolSum,
+  totalIn,
+  baseIn,
+  takenIn,
+  finalOn,
+  Sharing,
+  InPool,
+  Addable,
+  Signable,
 };
 
 // What is paid and what is taken back, by schedule.
@@ -36,7 +61,7 @@ pub struct SidePool {
     pub rises: [u64; 5],
     pub falls: [u64; 5],
     // how many revised payments differ from their initial ones
-    pub differs: [u32; 5],
+    pub differs: [u64; 5],
 }
 
 fn product(a: u32, b: u32) -> u64
@@ -123,10 +148,10 @@ pub fn falls(c: [u32; 5]) -> [u32; 5]
 fn if_paid(paid: u32, q: u32) -> u32
     ensures { λ r. ⌜ r ≡ cond (eqb paid 1) q 0 ⌝ }
 {
-    if paid == 1 {
-        return q;
+    if paid != 1 {
+        return 0;
     }
-    0
+    q
 }
 
 // Quantities where the step is paid, else 0.
@@ -159,7 +184,10 @@ fn given_back(m: [u32; 5], rate: [u32; 5]) -> u64
     requires { ⌜ givenAt m rate < 2 ^ 64 ⌝ }
     ensures { λ r. ⌜ r ≡ givenAt m rate ⌝ }
 {
-    product(m[0], rate[0]) + product(m[1], rate[1]) + product(m[2], rate[2]) + product(m[3], rate[3])
+    product(m[0], rate[0])
+        + product(m[1], rate[1])
+        + product(m[2], rate[2])
+        + product(m[3], rate[3])
 }
 
 fn given_if_paid(paid: u32, m: [u32; 5], rate: [u32; 5]) -> u64
@@ -183,10 +211,26 @@ fn revised_minus(x: Step, t: [[u32; 5]; 5]) -> [u64; 5]
     let paid = x.paid;
     [
         0,
-        given_if_paid(paid[1], t[1], revised_rates(side, price, price[1], market[1])),
-        given_if_paid(paid[2], t[2], revised_rates(side, price, price[2], market[2])),
-        given_if_paid(paid[3], t[3], revised_rates(side, price, price[3], market[3])),
-        given_if_paid(paid[4], t[4], revised_rates(side, price, price[4], market[4])),
+        given_if_paid(
+            paid[1],
+            t[1],
+            revised_rates(side, price, price[1], market[1]),
+        ),
+        given_if_paid(
+            paid[2],
+            t[2],
+            revised_rates(side, price, price[2], market[2]),
+        ),
+        given_if_paid(
+            paid[3],
+            t[3],
+            revised_rates(side, price, price[3], market[3]),
+        ),
+        given_if_paid(
+            paid[4],
+            t[4],
+            revised_rates(side, price, price[4], market[4]),
+        ),
     ]
 }
 
@@ -215,7 +259,7 @@ fn modified_minus(x: Step, t: [[u32; 5]; 5], rate: [u32; 5], initial: [u64; 5]) 
 }
 
 // 1 where two numbers differ.
-fn differ(a: u64, b: u64) -> u32
+fn differ(a: u64, b: u64) -> u64
     ensures { λ r. ⌜ r ≡ paper.bit (not (eqb a b)) ⌝ }
 {
     if a == b {
@@ -224,7 +268,7 @@ fn differ(a: u64, b: u64) -> u32
     1
 }
 
-fn differing(a: [u64; 5], b: [u64; 5]) -> [u32; 5]
+fn differing(a: [u64; 5], b: [u64; 5]) -> [u64; 5]
     ensures { λ r. ⌜ r ≡ five (differIn a b) ⌝ }
 {
     [
@@ -266,14 +310,13 @@ fn add_rows(a: [u64; 5], b: [u64; 5]) -> [u64; 5]
     requires { ⌜ ((s : ℕ) → sumIn a b s < 2 ^ 64) ⌝ }
     ensures { λ r. ⌜ r ≡ five (sumIn a b) ⌝ }
 {
-    [a[0] + b[0], a[1] + b[1], a[2] + b[2], a[3] + b[3], a[4] + b[4]]
-}
-
-fn add_counts(a: [u32; 5], b: [u32; 5]) -> [u32; 5]
-    requires { ⌜ ((s : ℕ) → sumIn a b s < 2 ^ 32) ⌝ }
-    ensures { λ r. ⌜ r ≡ five (sumIn a b) ⌝ }
-{
-    [a[0] + b[0], a[1] + b[1], a[2] + b[2], a[3] + b[3], a[4] + b[4]]
+    [
+        a[0] + b[0],
+        a[1] + b[1],
+        a[2] + b[2],
+        a[3] + b[3],
+        a[4] + b[4],
+    ]
 }
 
 // Two pools, or two parts of one.
@@ -296,12 +339,12 @@ pub fn pool_add(a: SidePool, b: SidePool) -> SidePool
         minus: add_rows(minus, more_minus),
         rises: add_rows(rises, more_rises),
         falls: add_rows(falls, more_falls),
-        differs: add_counts(differs, more_differs),
+        differs: add_rows(differs, more_differs),
     }
 }
 
 // T of a schedule, or 0 where it isn't above 0 or nothing differs.
-fn shared_total(plus: u64, minus: u64, differs: u32) -> u64
+fn shared_total(plus: u64, minus: u64, differs: u64) -> u64
     ensures { λ r. ⌜ r ≡ cond (eqb differs 0) 0 (plus - minus) ⌝ }
 {
     if differs == 0 {
@@ -341,7 +384,16 @@ fn bases(p: SidePool) -> [u64; 5]
 }
 
 // What the final payment takes back in a schedule after the first.
-fn taken_back(claw: u32, flag: u32, initial: u64, revised: u64, modified: u64, fall: u32, total: u64, base: u64) -> u64
+fn taken_back(
+    claw: u32,
+    flag: u32,
+    initial: u64,
+    revised: u64,
+    modified: u64,
+    fall: u32,
+    total: u64,
+    base: u64,
+) -> u64
     requires { ⌜ Sharing initial revised fall total base ⌝ }
     ensures { λ r. ⌜ r ≡ takenBack claw flag initial revised modified fall total base ⌝ }
 {
@@ -360,16 +412,61 @@ fn taken_back(claw: u32, flag: u32, initial: u64, revised: u64, modified: u64, f
     lesser64(initial, revised + share(total, wide(fall), base))
 }
 
-fn final_minus(claw: u32, flag: [u32; 5], initial: [u64; 5], revised: [u64; 5], modified: [u64; 5], fall: [u32; 5], total: [u64; 5], base: [u64; 5]) -> [u64; 5]
+fn final_minus(
+    claw: u32,
+    flag: [u32; 5],
+    initial: [u64; 5],
+    revised: [u64; 5],
+    modified: [u64; 5],
+    fall: [u32; 5],
+    total: [u64; 5],
+    base: [u64; 5],
+) -> [u64; 5]
     requires { ⌜ ((s : ℕ) → s < 5 → Sharing (at initial s) (at revised s) (at fall s) (at total s) (at base s)) ⌝ }
     ensures { λ r. ⌜ r ≡ five (takenIn claw flag initial revised modified fall total base) ⌝ }
 {
     [
         initial[0],
-        taken_back(claw, flag[1], initial[1], revised[1], modified[1], fall[1], total[1], base[1]),
-        taken_back(claw, flag[2], initial[2], revised[2], modified[2], fall[2], total[2], base[2]),
-        taken_back(claw, flag[3], initial[3], revised[3], modified[3], fall[3], total[3], base[3]),
-        taken_back(claw, flag[4], initial[4], revised[4], modified[4], fall[4], total[4], base[4]),
+        taken_back(
+            claw,
+            flag[1],
+            initial[1],
+            revised[1],
+            modified[1],
+            fall[1],
+            total[1],
+            base[1],
+        ),
+        taken_back(
+            claw,
+            flag[2],
+            initial[2],
+            revised[2],
+            modified[2],
+            fall[2],
+            total[2],
+            base[2],
+        ),
+        taken_back(
+            claw,
+            flag[3],
+            initial[3],
+            revised[3],
+            modified[3],
+            fall[3],
+            total[3],
+            base[3],
+        ),
+        taken_back(
+            claw,
+            flag[4],
+            initial[4],
+            revised[4],
+            modified[4],
+            fall[4],
+            total[4],
+            base[4],
+        ),
     ]
 }
 
@@ -389,7 +486,16 @@ pub fn final_money(x: Step, claw: u32, p: SidePool) -> Money
     let modified = modified_minus(x, table, rate, initial);
     Money {
         plus: products(only_paid(paid, rises(c)), rate),
-        minus: final_minus(claw, flag, initial, revised, modified, fall, shared_totals(p), bases(p)),
+        minus: final_minus(
+            claw,
+            flag,
+            initial,
+            revised,
+            modified,
+            fall,
+            shared_totals(p),
+            bases(p),
+        ),
     }
 }
 

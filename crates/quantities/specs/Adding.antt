@@ -1,6 +1,7 @@
 -- The steps' quantities add up to the totals: allocation over rising ends, then the steps of a line.
 use Prim.Native.Nat.{ℕ, zero, suc, _-_, _≤_, _<_, min}
 use native.Mathlib.Omega.{arith}
+use native.Mathlib.Decide.{decLt}
 use mathlib.Core.Path.{_≡_, refl, sym, _∙_}
 use mathlib.Core.List.{List}
 use Rattle.rules.specs.Fold.{sumTo, five, at}
@@ -16,9 +17,16 @@ use Rattle.quantities.specs.Bounds.{onStep-most}
 unfoldable pub allocatedBetween : ℕ → (ℕ → ℕ) → ℕ → ℕ
 allocatedBetween q e j = allocated q (e j) (e (suc j))
 
-rises : (n : ℕ) (e : ℕ → ℕ) → ((j : ℕ) → j < n → e j ≤ e (suc j)) → e 0 ≤ e n
-rises zero e h = omega arith
-rises (suc n) e h = omega (arith, rises n e (λ j l. h j (omega arith)), h n (omega arith))
+-- of rising ends each is at most the last
+pub rising-le : (n : ℕ) (e : ℕ → ℕ) → ((j : ℕ) → j < n → e j ≤ e (suc j)) → (i : ℕ) → i ≤ n → e i ≤ e n
+rising-le zero e h i k = let q : i ≡ 0 = omega arith in rw q (omega arith)
+rising-le (suc n) e h i k =
+    let r = rising-le n e (λ j l. h j (omega arith)) i in
+    let t = h n (omega arith) in
+    elim (decLt n i) [
+      | yes l ↦ let q : i ≡ suc n = omega arith in rw q (omega arith)
+      | no g ↦ omega (arith, r (omega arith))
+    ]
 
 -- over rising ends the steps' parts of q add up to what of it lies between the first end and the last
 pub telescope : (q n : ℕ) (e : ℕ → ℕ) → ((j : ℕ) → j < n → e j ≤ e (suc j)) → sumTo n (allocatedBetween q e) ≡ min q (e n) - e 0
@@ -26,7 +34,7 @@ unfolding allocatedBetween allocated
 telescope q zero e h = rw (sum-none (allocatedBetween q e)) (omega arith)
 telescope q (suc n) e h =
     let r = telescope q n e (λ j l. h j (omega arith)) in
-    let b = rises n e (λ j l. h j (omega arith)) in
+    let b = rising-le n e (λ j l. h j (omega arith)) 0 (omega arith) in
     let t = h n (omega arith) in
     rw (sum-suc n (allocatedBetween q e), r) (omega arith)
 
@@ -34,6 +42,11 @@ telescope q (suc n) e h =
 pub record RisingEnds (w : List ℕ) : Type 0 where
   pub rising : (j : ℕ) → j < stepCount w → lowerEnd w j ≤ upperEnd w j
   pub last : lowerEnd w (stepCount w) ≡ greatestBreak w
+
+-- an upper end is at most M
+pub upper-most : (w : List ℕ) (j : ℕ) → RisingEnds w → j < stepCount w → upperEnd w j ≤ greatestBreak w
+unfolding lowerEnd upperEnd
+upper-most w j e h = omega (arith, rising-le (stepCount w) (lowerEnd w) (e .rising) (suc j) h, e .last)
 
 -- a total of at most M adds up over the steps of the line
 pub steps-add-up : (w : List ℕ) (q : ℕ) → RisingEnds w → q ≤ greatestBreak w → sumTo (stepCount w) (allocatedBetween q (lowerEnd w)) ≡ q

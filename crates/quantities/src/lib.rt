@@ -35,16 +35,16 @@ pub fn allocate_all(q: [u32; 5], l: u32, u: u32) -> [u32; 5]
 pub fn operating_on(x: Step) -> [u32; 5]
     ensures { λ r. ⌜ r ≡ five (paper.operatingOn x) ⌝ }
 {
-    let q = x.operating;
-    allocate_all(q, x.lower, x.upper)
+    let operating = x.operating;
+    allocate_all(operating, x.lower, x.upper)
 }
 
 // E
 pub fn pricing_on(x: Step) -> [u32; 5]
     ensures { λ r. ⌜ r ≡ five (paper.pricingOn x) ⌝ }
 {
-    let q = x.pricing;
-    allocate_all(q, x.lower, x.upper)
+    let pricing = x.pricing;
+    allocate_all(pricing, x.lower, x.upper)
 }
 
 // A

@@ -7,7 +7,7 @@ use Rattle.payments.proofs.bases.Tie as tie
 
 returns : tie.Need-returns
 unfolding baseIn
-returns c = 
+returns c =
     five-is (baseIn (c .before .before .before .before .before .before .before .args .p))
     (c .before .before .before .before .greater64 .ensures)
     (c .before .before .before .greater642 .ensures)

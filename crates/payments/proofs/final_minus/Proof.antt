@@ -21,7 +21,7 @@ taken-back-requires-4 c κs = c .before .before .before .pre 4 (omega arith)
 
 returns : tie.Need-returns
 unfolding takenIn
-returns c = 
+returns c =
     let g = c .before .before .before .before .args in
     five-is (takenIn (g .claw) (g .t2) (g .t3) (g .t4) (g .t5) (g .t6) (g .t7) (g .t8))
     refl

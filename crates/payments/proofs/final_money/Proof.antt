@@ -15,13 +15,13 @@ revised-minus-requires c κs = (c .before .before .before .before .before .befor
 
 modified-minus-requires : tie.Need-modified-minus-requires
 unfolding matchRow
-modified-minus-requires c κs = 
+modified-minus-requires c κs =
     let x = c .before .before .before .before .before .before .before .before .before .args .x in
     let down = change-row x fall (c .before .before .before .before .before .before .before .before .constrained-on .ensures) (c .before .before .before .before .falls .ensures) (c .before .before .before .only-paid .ensures) in
     (c .before .before .before .before .before .before .before .before .before .pre .0, rw (c .before .before .match-table .ensures, c .before .before .before .before .before .before .before .before .constrained-on .ensures), c .before .before .before .before .before .rates .ensures, minus-row x down (c .before .before .before .before .before .rates .ensures) (c .before .products .ensures))
 
 final-minus-requires : tie.Need-final-minus-requires
-final-minus-requires c κs = 
+final-minus-requires c κs =
     let x = c .before .before .before .before .before .before .before .before .before .before .before .before .before .before .before .args .x in
     let down = change-row x fall (c .before .before .before .before .before .before .before .before .before .before .before .before .before .before .constrained-on .ensures) (c .before .before .before .before .before .before .before .before .before .before .falls .ensures) (c .before .before .before .before .before .before .before .before .before .only-paid .ensures) in
     sharing x (c .before .before .before .before .before .before .before .before .before .before .before .before .before .before .before .args .p)
@@ -38,7 +38,7 @@ final-minus-requires c κs =
 
 returns : tie.Need-returns
 unfolding moneyOf
-returns c = 
+returns c =
     let x = c .before .before .before .before .before .before .before .before .before .before .before .before .before .before .before .before .args .x in
     let down = change-row x fall (c .before .before .before .before .before .before .before .before .before .before .before .before .before .before .before .constrained-on .ensures) (c .before .before .before .before .before .before .before .before .before .before .before .falls .ensures) (c .before .before .before .before .before .before .before .before .before .before .only-paid .ensures) in
     let claw = c .before .before .before .before .before .before .before .before .before .before .before .before .before .before .before .before .args .claw in
@@ -46,8 +46,8 @@ returns c =
     let up = change-row x rise (c .before .before .before .before .before .before .before .before .before .before .before .before .before .before .before .constrained-on .ensures) (c .before .before .before .before .before .rises .ensures) (c .before .before .before .before .only-paid2 .ensures) in
     let plus = plus-row x up (c .before .before .before .before .before .before .before .before .before .before .before .before .rates .ensures) (c .before .before .before .products2 .ensures) ∙ final-pays x claw p in
     let minus =
-      final-row x claw p
-      (record {
+    final-row x claw p
+    (record {
       initials = minus-row x down (c .before .before .before .before .before .before .before .before .before .before .before .before .rates .ensures) (c .before .before .before .before .before .before .before .before .products .ensures);
       reviseds = c .before .before .before .before .before .before .before .revised-minus .ensures;
       modifieds = c .before .before .before .before .before .before .modified-minus .ensures;
@@ -55,7 +55,7 @@ returns c =
       totals = c .before .before .shared-totals .ensures;
       bases = c .before .bases .ensures;
     })
-      (c .final-minus .ensures) in
+    (c .final-minus .ensures) in
     λ i. record { plus = plus i; minus = minus i }
 
 pub final-money-spec : {M : Type 1} → statement M

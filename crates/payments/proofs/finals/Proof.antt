@@ -8,13 +8,13 @@ use Rattle.payments.proofs.finals.Tie as tie
 
 signed-money-requires : tie.Need-signed-money-requires
 unfolding finalOn
-signed-money-requires c κs = 
+signed-money-requires c κs =
     let g = c .before .args in
     rw (c .final-money .ensures)
     (signable (finalOn (g .x) (g .claw) (g .p)) (λ s. final-within (g .x) (g .claw) s (poolAt (g .p) s) (c .before .pre .0)))
 
 returns : tie.Need-returns
-returns c = 
+returns c =
     let g = c .before .before .args in
     rw (c .signed-money .ensures, c .before .final-money .ensures) (money-back (finalOn (g .x) (g .claw) (g .p)))
 

@@ -7,7 +7,7 @@ use Rattle.payments.proofs.initial.Statement.{statement}
 use Rattle.payments.proofs.initial.Tie as tie
 
 signed-money-requires : tie.Need-signed-money-requires
-signed-money-requires c κs = 
+signed-money-requires c κs =
     let x = c .before .args .x in
     rw (c .initial-money .ensures) (signable (initial x) (λ s. initial-within x s (c .before .pre)))
 

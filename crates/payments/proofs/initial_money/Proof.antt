@@ -8,7 +8,7 @@ use Rattle.payments.proofs.initial_money.Tie as tie
 
 returns : tie.Need-returns
 unfolding moneyOf
-returns c = 
+returns c =
     let x = c .before .before .before .before .before .before .before .before .before .args .x in
     let up = change-row x rise (c .before .before .before .before .before .before .before .before .constrained-on .ensures) (c .before .before .before .before .before .rises .ensures) (c .before .before .before .before .only-paid .ensures) in
     let down = change-row x fall (c .before .before .before .before .before .before .before .before .constrained-on .ensures) (c .before .before .falls .ensures) (c .before .only-paid2 .ensures) in

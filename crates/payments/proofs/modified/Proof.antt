@@ -7,7 +7,7 @@ use Rattle.payments.proofs.modified.Statement.{statement}
 use Rattle.payments.proofs.modified.Tie as tie
 
 signed-money-requires : tie.Need-signed-money-requires
-signed-money-requires c κs = 
+signed-money-requires c κs =
     let x = c .before .args .x in
     rw (c .modified-money .ensures) (signable (modified x) (λ s. modified-within x s (c .before .pre)))
 

@@ -15,19 +15,19 @@ add-rows-requires-3 c κs = c .before .before .before .before .before .before .b
 add-rows-requires-4 : tie.Need-add-rows-requires-4
 add-rows-requires-4 c κs = c .before .before .before .before .before .before .before .before .before .before .before .before .before .pre .falls
 
-add-counts-requires : tie.Need-add-counts-requires
-add-counts-requires c κs = c .before .before .before .before .before .before .before .before .before .before .before .before .before .before .pre .differs
+add-rows-requires-5 : tie.Need-add-rows-requires-5
+add-rows-requires-5 c κs = c .before .before .before .before .before .before .before .before .before .before .before .before .before .before .pre .differs
 
 returns : tie.Need-returns
 unfolding poolSum
-returns c = 
+returns c =
     λ i.
     record {
       plus = c .before .before .before .before .add-rows .ensures i;
       minus = c .before .before .before .add-rows2 .ensures i;
       rises = c .before .before .add-rows3 .ensures i;
       falls = c .before .add-rows4 .ensures i;
-      differs = c .add-counts .ensures i;
+      differs = c .add-rows5 .ensures i;
     }
 
 pub pool-add-spec : {M : Type 1} → statement M
@@ -38,5 +38,5 @@ pool-add-spec =
     add-rows-requires-2
     add-rows-requires-3
     add-rows-requires-4
-    add-counts-requires
+    add-rows-requires-5
     returns)

@@ -7,7 +7,7 @@ use Rattle.payments.proofs.revised.Statement.{statement}
 use Rattle.payments.proofs.revised.Tie as tie
 
 signed-money-requires : tie.Need-signed-money-requires
-signed-money-requires c κs = 
+signed-money-requires c κs =
     let x = c .before .args .x in
     rw (c .revised-money .ensures) (signable (revised x) (λ s. revised-within x s (c .before .pre)))
 

@@ -14,7 +14,7 @@ revised-minus-requires c κs = (c .before .before .before .before .pre, rw (c .m
 
 returns : tie.Need-returns
 unfolding moneyOf
-returns c = 
+returns c =
     let plus = ap (λ (m : Money). m .plus) (c .before .before .before .before .initial-money .ensures) ∙ revised-pays (c .before .before .before .before .before .args .x) in
     λ i. record { plus = plus i; minus = c .revised-minus .ensures i }
 

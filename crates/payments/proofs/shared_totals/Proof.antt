@@ -7,7 +7,7 @@ use Rattle.payments.proofs.shared_totals.Tie as tie
 
 returns : tie.Need-returns
 unfolding totalIn
-returns c = 
+returns c =
     five-is (totalIn (c .before .before .before .before .before .before .before .before .args .p))
     (c .before .before .before .before .shared-total .ensures)
     (c .before .before .before .shared-total2 .ensures)

@@ -25,7 +25,7 @@ signed-requires-5 c κs = (c .before .before .before .before .before .before .pr
 
 returns : tie.Need-returns
 unfolding paymentOf
-returns c = 
+returns c =
     five-is (paymentOf (c .before .before .before .before .before .before .before .args .m))
     (toZ-ofZ w64 (c .before .before .before .before .signed .result) (record { sfits = c .before .before .before .before .signed .ok }) ∙ c .before .before .before .before .signed .ensures)
     (toZ-ofZ w64 (c .before .before .before .signed2 .result) (record { sfits = c .before .before .before .signed2 .ok }) ∙ c .before .before .before .signed2 .ensures)

@@ -24,29 +24,31 @@ unfolding takenBack
 returns-4 c = rw (ne-eqb (c .before .before .before .before .args .claw) 0 (c .before .before .before .if1 .left), ne-eqb (c .before .before .before .before .args .flag) 1 (c .before .before .if2 .left), lt-ltb 0 (c .before .before .before .before .args .total) (omega arith), c .if4 .taken)
 
 share-requires : tie.Need-share-requires
-share-requires c κs = 
+share-requires c κs =
     let h = c .before .before .before .before .before .pre .some (omega arith) in
     omega (arith, c .wide .ensures, c .before .before .before .before .before .pre)
 
 add-lesser64 : tie.Need-add-lesser64
-add-lesser64 c = 
+add-lesser64 c =
     let h = c .before .before .before .before .before .before .pre in
-    omega
-    (arith,
-    c .share .ensures,
-    rw (c .before .wide .ensures) at (c .share .ensures),
-    share-most (c .before .before .before .before .before .before .args .total) (c .before .before .before .before .before .before .args .fall) (c .before .before .before .before .before .before .args .base) (h .part))
+    omega (
+      arith,
+      c .share .ensures,
+      rw (c .before .wide .ensures) at (c .share .ensures),
+      share-most (c .before .before .before .before .before .before .args .total) (c .before .before .before .before .before .before .args .fall) (c .before .before .before .before .before .before .args .base) (h .part),
+    )
 
 returns-5 : tie.Need-returns-5
 unfolding takenBack
-returns-5 c = 
-    rw
-    (ne-eqb (c .before .before .before .before .before .before .before .args .claw) 0 (c .before .before .before .before .before .before .if1 .left),
-    ne-eqb (c .before .before .before .before .before .before .before .args .flag) 1 (c .before .before .before .before .before .if2 .left),
-    lt-ltb 0 (c .before .before .before .before .before .before .before .args .total) (omega arith),
-    lt-ltb 0 (c .before .before .before .before .before .before .before .args .initial) (omega arith),
-    ← c .before .before .wide .ensures,
-    ← c .before .share .ensures)
+returns-5 c =
+    rw (
+      ne-eqb (c .before .before .before .before .before .before .before .args .claw) 0 (c .before .before .before .before .before .before .if1 .left),
+      ne-eqb (c .before .before .before .before .before .before .before .args .flag) 1 (c .before .before .before .before .before .if2 .left),
+      lt-ltb 0 (c .before .before .before .before .before .before .before .args .total) (omega arith),
+      lt-ltb 0 (c .before .before .before .before .before .before .before .args .initial) (omega arith),
+      ← c .before .before .wide .ensures,
+      ← c .before .share .ensures,
+    )
     (c .lesser64 .ensures)
 
 pub taken-back-spec : {M : Type 1} → statement M

@@ -1,18 +1,22 @@
 -- `Ledger::enter` meets its contract.
-use native.Mathlib.Omega.{arith}
+use Prim.Native.Nat.{_-_}
+use lib.ListN.{getD}
 use borrow.Author.Needs.{needs}
-use Rattle.matching.proofs.Entering.{enter-is}
+use Rattle.matching.proofs.Entering.{match-most, enter-is}
 use Rattle.matching.proofs.Ledger.enter.Statement.{statement}
 use Rattle.matching.proofs.Ledger.enter.Tie as tie
 
 sub-t25 : tie.Need-sub-t25
-sub-t25 c = omega (arith, c .before .before .before .before .lesser .ensures)
+sub-t25 c =
+    match-most (c .before .before .before .before .before .less .result) (getD (c .before .before .before .before .before .before .before .args .self .rises) 0 0) (c .before .before .before .before .lesser .ensures)
 
 sub-t29 : tie.Need-sub-t29
-sub-t29 c = omega (arith, c .before .before .before .lesser2 .ensures)
+sub-t29 c =
+    match-most (c .before .before .before .before .before .less .result - c .before .before .before .before .lesser .result) (getD (c .before .before .before .before .before .before .before .args .self .rises) 1 0) (c .before .before .before .lesser2 .ensures)
 
 sub-t33 : tie.Need-sub-t33
-sub-t33 c = omega (arith, c .before .before .lesser3 .ensures)
+sub-t33 c =
+    match-most (c .before .before .before .before .before .less .result - c .before .before .before .before .lesser .result - c .before .before .before .lesser2 .result) (getD (c .before .before .before .before .before .before .before .args .self .rises) 2 0) (c .before .before .lesser3 .ensures)
 
 returns : tie.Need-returns
 returns c =
