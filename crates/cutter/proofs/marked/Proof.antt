@@ -10,7 +10,7 @@ use Rattle.cutter.proofs.with_flag.Reads as with-flag-reads
 
 -- src/lib.rt:204:39
 flag-of-requires : tie.Need-flag-of-requires
-flag-of-requires c κs = search needs
+flag-of-requires c κs = tt
 
 -- src/lib.rt:204:16
 with-flag-requires : tie.Need-with-flag-requires
@@ -18,7 +18,7 @@ with-flag-requires c κs = room-of (c .flag-of .ensures) (c .before .pre .first)
 
 -- src/lib.rt:205:41
 flag-of-requires-2 : tie.Need-flag-of-requires-2
-flag-of-requires-2 c κs = search needs
+flag-of-requires-2 c κs = tt
 
 -- src/lib.rt:205:17
 with-flag-requires-2 : tie.Need-with-flag-requires-2
@@ -26,7 +26,7 @@ with-flag-requires-2 c κs = room-of (c .flag-of2 .ensures) (c .before .before .
 
 -- src/lib.rt:206:39
 flag-of-requires-3 : tie.Need-flag-of-requires-3
-flag-of-requires-3 c κs = search needs
+flag-of-requires-3 c κs = tt
 
 -- src/lib.rt:206:16
 with-flag-requires-3 : tie.Need-with-flag-requires-3
@@ -34,7 +34,7 @@ with-flag-requires-3 c κs = room-of (c .flag-of3 .ensures) (c .before .before .
 
 -- src/lib.rt:207:41
 flag-of-requires-4 : tie.Need-flag-of-requires-4
-flag-of-requires-4 c κs = search needs
+flag-of-requires-4 c κs = tt
 
 -- src/lib.rt:207:17
 with-flag-requires-4 : tie.Need-with-flag-requires-4
@@ -42,7 +42,7 @@ with-flag-requires-4 c κs = room-of (c .flag-of4 .ensures) (c .before .before .
 
 -- src/lib.rt:208:39
 flag-of-requires-5 : tie.Need-flag-of-requires-5
-flag-of-requires-5 c κs = search needs
+flag-of-requires-5 c κs = tt
 
 -- src/lib.rt:208:16
 with-flag-requires-5 : tie.Need-with-flag-requires-5

@@ -18,7 +18,7 @@ gap-requires-2 c κs = (c .before .pre .second, c .before .pre .end)
 
 -- src/lib.rt:174:9
 lesser-requires : tie.Need-lesser-requires
-lesser-requires c κs = search needs
+lesser-requires c κs = tt
 
 -- src/lib.rt:175:16
 gap-requires-3 : tie.Need-gap-requires-3
@@ -30,11 +30,11 @@ gap-requires-4 c κs = (c .before .before .before .before .pre .fourth, c .befor
 
 -- src/lib.rt:175:9
 lesser-requires-2 : tie.Need-lesser-requires-2
-lesser-requires-2 c κs = search needs
+lesser-requires-2 c κs = tt
 
 -- src/lib.rt:173:9
 lesser-requires-3 : tie.Need-lesser-requires-3
-lesser-requires-3 c κs = search needs
+lesser-requires-3 c κs = tt
 
 -- src/lib.rt:177:24
 gap-requires-5 : tie.Need-gap-requires-5
@@ -46,11 +46,11 @@ gap-requires-6 c κs = (c .before .before .before .before .before .before .befor
 
 -- src/lib.rt:177:17
 lesser-requires-4 : tie.Need-lesser-requires-4
-lesser-requires-4 c κs = search needs
+lesser-requires-4 c κs = tt
 
 -- src/lib.rt:177:5
 lesser-requires-5 : tie.Need-lesser-requires-5
-lesser-requires-5 c κs = search needs
+lesser-requires-5 c κs = tt
 
 -- src/lib.rt:169:1
 returns : tie.Need-returns

@@ -13,7 +13,7 @@ bid-price-requires c κs = price-read (c .before .pre .0) 0 (omega arith) (c .be
 
 -- src/lib.rt:217:5
 mul-prices : tie.Need-mul-prices
-mul-prices c = search needs
+mul-prices c = omega arith
 
 -- src/lib.rt:217:5
 element-write-prices : tie.Need-element-write-prices
@@ -25,11 +25,11 @@ bid-price-requires-2 c κs = price-read (c .before .before .pre .0) 1 (omega ari
 
 -- src/lib.rt:218:12
 add-prices : tie.Need-add-prices
-add-prices c = search needs
+add-prices c = omega arith
 
 -- src/lib.rt:218:5
 mul-prices-2 : tie.Need-mul-prices-2
-mul-prices-2 c = search needs
+mul-prices-2 c = omega arith
 
 -- src/lib.rt:218:5
 element-write-prices-2 : tie.Need-element-write-prices-2
@@ -41,11 +41,11 @@ bid-price-requires-3 c κs = price-read (c .before .before .before .pre .0) 2 (o
 
 -- src/lib.rt:219:12
 add-prices-2 : tie.Need-add-prices-2
-add-prices-2 c = search needs
+add-prices-2 c = omega arith
 
 -- src/lib.rt:219:5
 mul-prices-3 : tie.Need-mul-prices-3
-mul-prices-3 c = search needs
+mul-prices-3 c = omega arith
 
 -- src/lib.rt:219:5
 element-write-prices-3 : tie.Need-element-write-prices-3
@@ -57,11 +57,11 @@ bid-price-requires-4 c κs = price-read (c .before .before .before .before .pre 
 
 -- src/lib.rt:220:12
 add-prices-3 : tie.Need-add-prices-3
-add-prices-3 c = search needs
+add-prices-3 c = omega arith
 
 -- src/lib.rt:220:5
 mul-prices-4 : tie.Need-mul-prices-4
-mul-prices-4 c = search needs
+mul-prices-4 c = omega arith
 
 -- src/lib.rt:220:5
 element-write-prices-4 : tie.Need-element-write-prices-4
@@ -73,11 +73,11 @@ bid-price-requires-5 c κs = price-read (c .before .before .before .before .befo
 
 -- src/lib.rt:221:12
 add-prices-4 : tie.Need-add-prices-4
-add-prices-4 c = search needs
+add-prices-4 c = omega arith
 
 -- src/lib.rt:221:5
 mul-prices-5 : tie.Need-mul-prices-5
-mul-prices-5 c = search needs
+mul-prices-5 c = omega arith
 
 -- src/lib.rt:221:5
 element-write-prices-5 : tie.Need-element-write-prices-5
