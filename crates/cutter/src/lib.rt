@@ -221,7 +221,7 @@ fn put_prices(line: &[u8], prices: &mut [u32; 280], at: Sweep, n: usize)
 }
 
 // The steps of an accepted line.
-fn steps(line: &[u8]) -> Cut
+pub fn steps(line: &[u8]) -> Cut
     requires { ⌜ Line (now line) ⌝ }
     ensures { λ r. ⌜ r ≡ cutOf (now (line .entry)) ⌝ }
 {

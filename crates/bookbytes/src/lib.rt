@@ -1,0 +1,1 @@
+// Reading a book back from its bytes: the definitions and laws are in specs/.

@@ -1,0 +1,90 @@
+-- The entry points' answers for an accepted day: the whole ones of `rules`, place by place.
+use Prim.Native.Nat.{ℕ, zero, suc, _+_, _-_, _≤_, _<_}
+use native.Mathlib.Omega.{arith}
+use mathlib.Core.Path.{_≡_, refl, _∙_}
+use mathlib.Core.List.{List}
+use mathlib.Core.Bool.{Bool, true, false, cond}
+use lib.ListN.{length, getD, replicate, length-take, length-drop, List·getD-append}
+use lib.Dec.{ltb}
+use borrow.Author.Tests.{lt-leb, le-ltb, ltb-true}
+use Rattle.rules.specs.Fold.{padded, before, _orElse_}
+use Rattle.rules.specs.Layout.{lineCount, lineAt}
+use Rattle.rules.specs.Steps.{ends, stepCount, upperEnd, lowerEnd, width}
+use Rattle.rules.specs.Refusals.{dayFault, cutFault, viewFault, settleFault, bookLength}
+use Rattle.rules.specs.Cutting.{cutOf, cutAnswer, stepPlaces}
+use Rattle.rules.specs.Matching.{matchesOf, matched, tenMatches}
+use Rattle.rules.specs.Viewing.{viewOf, viewAnswer}
+use Rattle.rules.specs.declared.View.{View}
+use Rattle.laws.specs.Accepted.{AcceptedDay, accepted-day}
+use Rattle.laws.specs.Folds.{refuse-false}
+use Rattle.certificate.specs.Certificate.{endAt, widthAt, matchesBefore, matchIn}
+
+-- a line of an accepted day has its 660 bytes
+line-length : (d : List ℕ) → AcceptedDay d → (k : ℕ) → k < lineCount d → length (lineAt d k) ≡ 660
+line-length d a k l =
+    let e = a .header .length-is in
+    simp (length-take, length-drop) (omega arith)
+
+-- the answers of an accepted day are the whole ones
+module _ (d : List ℕ) (h : dayFault d ≡ 0) where
+  pub view-whole : (k j : ℕ) → k < lineCount d → j < stepCount (lineAt d k) → viewAnswer d k j ≡ viewOf d k j
+  unfolding viewAnswer viewFault _orElse_
+  view-whole k j l g = rw (h, lt-leb (lineCount d) k l, lt-leb (stepCount (lineAt d k)) j g, refuse-false 16, refuse-false 17)
+
+  pub cut-whole : (k : ℕ) → k < lineCount d → cutAnswer (lineAt d k) ≡ cutOf (lineAt d k)
+  unfolding cutAnswer cutFault _orElse_
+  cut-whole k l =
+      let a = accepted-day d h in
+      rw (line-length d a k l, a .line-fault k l, refuse-false 18)
+
+  pub settle-taken : (b : List ℕ) → bookLength (lineCount d) ≤ length b → settleFault d (length b) ≡ 0
+  unfolding settleFault _orElse_
+  settle-taken b l = rw (h, le-ltb (length b) (bookLength (lineCount d)) l, refuse-false 15)
+
+-- the cutter's ends and widths
+module _ (w : List ℕ) where
+  pub end-at : (j : ℕ) → j < stepCount w → endAt (cutOf w) j ≡ upperEnd w j
+  unfolding endAt cutOf upperEnd stepCount padded
+  end-at j l = List·getD-append (ends w) (replicate (stepPlaces - length (ends w)) 0) 0 j l
+
+  before-at : (j : ℕ) → j < stepCount w → before (endAt (cutOf w)) j ≡ lowerEnd w j
+  unfolding before lowerEnd upperEnd
+  before-at zero l = refl
+  before-at (suc j) l = end-at j (omega arith)
+
+  pub width-at : (j : ℕ) → j < stepCount w → widthAt (cutOf w) j ≡ width w j
+  unfolding widthAt width
+  width-at j l = simp (end-at j l, before-at j l)
+
+-- the ten matches are those of the definition
+ten-at : (c : List ℕ) (s r : ℕ) → r < s → s < 5 → getD (tenMatches c) (matchesBefore s + r) 0 ≡ matched c s r
+unfolding tenMatches
+ten-at c zero r l g = absurd (omega arith)
+ten-at c (suc zero) zero l g = refl
+ten-at c (suc zero) (suc r) l g = absurd (omega arith)
+ten-at c (suc (suc zero)) zero l g = refl
+ten-at c (suc (suc zero)) (suc zero) l g = refl
+ten-at c (suc (suc zero)) (suc (suc r)) l g = absurd (omega arith)
+ten-at c (suc (suc (suc zero))) zero l g = refl
+ten-at c (suc (suc (suc zero))) (suc zero) l g = refl
+ten-at c (suc (suc (suc zero))) (suc (suc zero)) l g = refl
+ten-at c (suc (suc (suc zero))) (suc (suc (suc r))) l g = absurd (omega arith)
+ten-at c (suc (suc (suc (suc zero)))) zero l g = refl
+ten-at c (suc (suc (suc (suc zero)))) (suc zero) l g = refl
+ten-at c (suc (suc (suc (suc zero)))) (suc (suc zero)) l g = refl
+ten-at c (suc (suc (suc (suc zero)))) (suc (suc (suc zero))) l g = refl
+ten-at c (suc (suc (suc (suc zero)))) (suc (suc (suc (suc r)))) l g = absurd (omega arith)
+ten-at c (suc (suc (suc (suc (suc s))))) r l g = absurd (omega arith)
+
+match-by : (c : List ℕ) (s r : ℕ) (t : Bool) → ltb r s ≡ t → s < 5 → cond t (getD (tenMatches c) (matchesBefore s + r) 0) 0 ≡ cond t (matched c s r) 0
+match-by c s r true e l = ten-at c s r (ltb-true r s e) l
+match-by c s r false e l = refl
+
+cond-again : (t : Bool) (x : ℕ) → cond t (cond t x 0) 0 ≡ cond t x 0
+cond-again true x = refl
+cond-again false x = refl
+
+pub match-at : (v : View) (c : List ℕ) → v .matches ≡ tenMatches c → (s r : ℕ) → s < 5 → matchIn v s r ≡ matched c s r
+unfolding matchIn matched
+match-at v c e s r l =
+    rw e (match-by c s r (ltb r s) refl l ∙ cond-again (ltb r s) (getD (matchesOf c s) (s - suc r) 0))

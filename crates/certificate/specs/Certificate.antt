@@ -1,0 +1,77 @@
+-- THE CERTIFICATE: demand 3 on one accepted day (document 01, "Matching", "Totals and book"), one field for each clause.
+-- It is stated of answers alone: `book` is the lent book as settling leaves it, `view k j` the step view's answer for
+-- step j of line k, `cut k` the cutter's for the bytes of line k. Lines, steps and schedules are counted from 0.
+use Prim.Native.Nat.{ℕ, zero, suc, _+_, _-_, _≤_, _<_}
+use mathlib.Core.Path.{_≡_}
+use mathlib.Core.List.{List}
+use mathlib.Core.Bool.{true, false, cond}
+use lib.ListN.{getD}
+use lib.Dec.{ltb}
+use lib.IntN.{ℤ, pos}
+use lib.Signed.{ltZ}
+use Rattle.rules.specs.Fold.{sumTo, sumZ, at, before}
+use Rattle.rules.specs.Layout.{word, lineCount, lineAt}
+use Rattle.rules.specs.Steps.{greatestBreak}
+use Rattle.rules.specs.Quantities.{pricingTotal, operatingTotal}
+use Rattle.rules.specs.Matching.{rise, fall}
+use Rattle.rules.specs.declared.View.{View}
+use Rattle.rules.specs.declared.Cut.{Cut}
+use Rattle.bookbytes.specs.Reading.{signedAt}
+use Rattle.bookbytes.specs.Framing.{adjustedAt, paymentAt}
+
+-- the cutter's upper end of step j, and "a width there is again an upper end less the one before"
+unfoldable pub endAt : Cut → ℕ → ℕ
+endAt r j = getD (r .ends) j 0
+
+unfoldable pub widthAt : Cut → ℕ → ℕ
+widthAt r j = endAt r j - before (endAt r) j
+
+-- m(r, s) "as the step view answers" it, among its ten matches: those of s follow those of the schedules before it
+abbrev pub matchesBefore : ℕ → ℕ
+matchesBefore zero = 0
+matchesBefore (suc s) = matchesBefore s + s
+
+-- 0 where r isn't before s
+unfoldable pub matchIn : View → ℕ → ℕ → ℕ
+matchIn v s r = cond (ltb r s) (getD (v .matches) (matchesBefore s + r) 0) 0
+
+-- the matches made in schedule s, and those with the rise of r in all five schedules
+unfoldable pub matchesMade : View → ℕ → ℕ
+matchesMade v s = sumTo s (matchIn v s)
+
+unfoldable pub matchesWith : View → ℕ → ℕ
+matchesWith v r = sumTo 5 (λ s. matchIn v s r)
+
+-- the book's adjusted total of s, and its five payments of line k
+unfoldable pub adjustedIn : List ℕ → ℕ → ℤ
+adjustedIn book s = signedAt book (adjustedAt s)
+
+unfoldable pub paymentsIn : List ℕ → ℕ → ℤ
+paymentsIn book k = sumZ 5 (λ s. signedAt book (paymentAt k s))
+
+pub record Certified (d book : List ℕ) (view : ℕ → ℕ → View) (cut : ℕ → Cut) : Type 0 where
+  -- neither the cutter nor the view refuses a line or a step of the day
+  pub cut-taken : (k : ℕ) → k < lineCount d → cut k .number ≡ 0
+  pub view-taken : (k j : ℕ) → k < lineCount d → j < cut k .count → view k j .number ≡ 0
+  -- on each line the view's widths add up to the greatest break
+  pub widths : (k : ℕ) → k < lineCount d → sumTo (cut k .count) (λ j. view k j .width) ≡ greatestBreak (lineAt d k)
+  -- "The cutter's upper ends are the view's", and its widths too
+  pub same-end : (k j : ℕ) → k < lineCount d → j < cut k .count → endAt (cut k) j ≡ view k j .end
+  pub same-width : (k j : ℕ) → k < lineCount d → j < cut k .count → widthAt (cut k) j ≡ view k j .width
+  -- in each schedule the steps' pricing and operating quantities add up to the line's totals
+  pub pricing-sum : (k s : ℕ) → k < lineCount d → s < 5 → sumTo (cut k .count) (λ j. at (view k j .pricing) s) ≡ pricingTotal (lineAt d k) s
+  pub operating-sum : (k s : ℕ) → k < lineCount d → s < 5 → sumTo (cut k .count) (λ j. at (view k j .operating) s) ≡ operatingTotal (lineAt d k) s
+  -- AGINO is at most O, and MSIQ at most E
+  pub agino-most : (k j s : ℕ) → k < lineCount d → j < cut k .count → s < 5 → at (view k j .agino) s ≤ at (view k j .operating) s
+  pub msiq-most : (k j s : ℕ) → k < lineCount d → j < cut k .count → s < 5 → at (view k j .msiq) s ≤ at (view k j .pricing) s
+  -- "for every s, the sum of m(r, s) over all r below s is D(s)"
+  pub falls : (k j s : ℕ) → k < lineCount d → j < cut k .count → s < 5 → matchesMade (view k j) s ≡ fall (view k j .constrained) s
+  -- "for every r, the sum of m(r, s) over all s above r is at most U(r)"
+  pub rises : (k j r : ℕ) → k < lineCount d → j < cut k .count → r < 5 → matchesWith (view k j) r ≤ rise (view k j .constrained) r
+  -- "for every s, the sum of U(1) to U(s), less all matches made in schedules up to s, is C(s)", said as a sum
+  pub balance : (k j s : ℕ) → k < lineCount d → j < cut k .count → s < 5 → sumTo (suc s) (rise (view k j .constrained)) ≡ at (view k j .constrained) s + sumTo (suc s) (matchesMade (view k j))
+  -- "All payments in the book are the five of each of its n lines": the five adjusted totals add up to them
+  pub lines : word book 0 ≡ lineCount d
+  pub adjusted-sum : sumZ 5 (adjustedIn book) ≡ sumZ (word book 0) (paymentsIn book)
+  -- and no negative adjusted total stands after a positive one
+  pub adjusted-order : (r s : ℕ) → r < s → s < 5 → ltZ (pos 0) (adjustedIn book r) ≡ true → ltZ (adjustedIn book s) (pos 0) ≡ false

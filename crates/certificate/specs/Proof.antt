@@ -1,0 +1,210 @@
+-- The certificate's proof: each clause from the law of its definition.
+use Prim.Native.Nat.{ℕ, zero, suc, _+_, _*_, _≤_, _<_}
+use native.Mathlib.Omega.{arith}
+use mathlib.Core.Path.{_≡_, refl, sym, _∙_, ap}
+use mathlib.Core.List.{List, _++_}
+use mathlib.Core.Bool.{true, false}
+use lib.ListN.{length, drop}
+use lib.IntN.{pos}
+use lib.Signed.{ltZ}
+use Rattle.rules.specs.Fold.{sumTo, sumZ, at, five}
+use Rattle.rules.specs.Layout.{word, lineCount, lineAt, quantityMost, priceMost}
+use Rattle.rules.specs.Steps.{greatestBreak, stepCount, width}
+use Rattle.rules.specs.Quantities.{pricingTotal, operatingTotal}
+use Rattle.rules.specs.Matching.{rise, fall, matched}
+use Rattle.rules.specs.Payments.{operatingOn, pricingOn, aginoOn, msiqOn, onStep, stepOf}
+use Rattle.rules.specs.Refusals.{dayFault, bookLength}
+use Rattle.rules.specs.Cutting.{cutOf, cutAnswer}
+use Rattle.rules.specs.Viewing.{viewOf, viewAnswer}
+use Rattle.rules.specs.Totals.{linePayment, total, totals, adjustedTotal}
+use Rattle.rules.specs.Book.{bookOf, bookAfter}
+use Rattle.rules.specs.declared.View.{View}
+use Rattle.rules.specs.declared.Cut.{Cut}
+use Rattle.laws.specs.Accepted.{accepted-day, accepted-line-at}
+use Rattle.laws.specs.Folds.{sum-same}
+use Rattle.laws.specs.Ints.{ltZ-yes, le-ltZ}
+use Rattle.totals.specs.Sizes.{Bounded, mag-size, adjusted-size}
+use Rattle.bookbytes.specs.Reading.{signedAt}
+use Rattle.bookbytes.specs.Framing.{paymentAt, book-words, book-adjusted, book-payment, after-settling}
+use Rattle.certificate.specs.Certificate.{Certified, endAt, widthAt, matchIn, matchesMade, matchesWith, adjustedIn, paymentsIn}
+use Rattle.certificate.specs.Layers.{Layers}
+use Rattle.certificate.specs.Ends.{widths-sum}
+use Rattle.certificate.specs.Paid.{payment-size}
+use Rattle.certificate.specs.Sums.{sumZ-same, sumZ-size}
+use Rattle.certificate.specs.Money.{linePayments, at-five, adjusted-payments, adjusted-order}
+use Rattle.certificate.specs.Answers.{view-whole, cut-whole, settle-taken, end-at, width-at, match-at}
+
+-- an array of five by schedule
+five-at : (f : ℕ → ℕ) (s : ℕ) → s < 5 → at (five f) s ≡ f s
+five-at f zero l = refl
+five-at f (suc zero) l = refl
+five-at f (suc (suc zero)) l = refl
+five-at f (suc (suc (suc zero))) l = refl
+five-at f (suc (suc (suc (suc zero)))) l = refl
+five-at f (suc (suc (suc (suc (suc s))))) l = absurd (omega arith)
+
+module _ (layers : Layers) (d : List ℕ) (h : dayFault d ≡ 0) where
+  -- gas and matches, of answers that are the whole ones
+  module _ (view : ℕ → ℕ → View) (cut : ℕ → Cut) (views : (k j : ℕ) → k < lineCount d → j < stepCount (lineAt d k) → view k j ≡ viewOf d k j) (cuts : (k : ℕ) → k < lineCount d → cut k ≡ cutOf (lineAt d k)) where
+    count-is : (k : ℕ) → k < lineCount d → cut k .count ≡ stepCount (lineAt d k)
+    unfolding cutOf
+    count-is k l = ap (λ (c : Cut). c .count) (cuts k l)
+
+    -- the view of a step of the cut line
+    view-is : (k j : ℕ) → k < lineCount d → j < cut k .count → view k j ≡ viewOf d k j
+    view-is k j l g = views k j l (rw (count-is k l) at g)
+
+    cut-number : (k : ℕ) → k < lineCount d → cut k .number ≡ 0
+    unfolding cutOf
+    cut-number k l = ap (λ (c : Cut). c .number) (cuts k l)
+
+    view-number : (k j : ℕ) → k < lineCount d → j < cut k .count → view k j .number ≡ 0
+    unfolding viewOf
+    view-number k j l g = ap (λ (v : View). v .number) (view-is k j l g)
+
+    -- a figure of each step, added up over the line
+    steps-sum : (k : ℕ) → k < lineCount d → (f : View → ℕ) (g : ℕ → ℕ) → ((j : ℕ) → f (viewOf d k j) ≡ g j) → sumTo (cut k .count) (λ j. f (view k j)) ≡ sumTo (stepCount (lineAt d k)) g
+    steps-sum k l f g e =
+        rw (count-is k l)
+        (sum-same (stepCount (lineAt d k)) (λ j. f (view k j)) g (λ j i. ap f (views k j l i) ∙ e j))
+
+    widths : (k : ℕ) → k < lineCount d → sumTo (cut k .count) (λ j. view k j .width) ≡ greatestBreak (lineAt d k)
+    unfolding viewOf
+    widths k l =
+        let a = accepted-line-at d (accepted-day d h) k l in
+        steps-sum k l (λ v. v .width) (width (lineAt d k)) (λ j. refl) ∙ widths-sum layers (lineAt d k) a
+
+    pricing-sum : (k s : ℕ) → k < lineCount d → s < 5 → sumTo (cut k .count) (λ j. at (view k j .pricing) s) ≡ pricingTotal (lineAt d k) s
+    unfolding viewOf
+    pricing-sum k s l g =
+        let a = accepted-line-at d (accepted-day d h) k l in
+        steps-sum k l (λ v. at (v .pricing) s) (λ j. pricingOn (stepOf d k j) s) (λ j. five-at (pricingOn (stepOf d k j)) s g)
+        ∙ layers .pricing d k s a g
+
+    operating-sum : (k s : ℕ) → k < lineCount d → s < 5 → sumTo (cut k .count) (λ j. at (view k j .operating) s) ≡ operatingTotal (lineAt d k) s
+    unfolding viewOf
+    operating-sum k s l g =
+        let a = accepted-line-at d (accepted-day d h) k l in
+        steps-sum k l (λ v. at (v .operating) s) (λ j. operatingOn (stepOf d k j) s) (λ j. five-at (operatingOn (stepOf d k j)) s g)
+        ∙ layers .operating d k s a g
+
+    same-end : (k j : ℕ) → k < lineCount d → j < cut k .count → endAt (cut k) j ≡ view k j .end
+    unfolding viewOf
+    same-end k j l g =
+        rw (view-is k j l g, cuts k l) (end-at (lineAt d k) j (rw (count-is k l) at g))
+
+    same-width : (k j : ℕ) → k < lineCount d → j < cut k .count → widthAt (cut k) j ≡ view k j .width
+    unfolding viewOf
+    same-width k j l g =
+        rw (view-is k j l g, cuts k l) (width-at (lineAt d k) j (rw (count-is k l) at g))
+
+    agino-most : (k j s : ℕ) → k < lineCount d → j < cut k .count → s < 5 → at (view k j .agino) s ≤ at (view k j .operating) s
+    unfolding viewOf
+    agino-most k j s l g i =
+        let x = stepOf d k j in
+        rw (view-is k j l g, five-at (aginoOn x) s i, five-at (operatingOn x) s i) (layers .agino-most x s i)
+
+    msiq-most : (k j s : ℕ) → k < lineCount d → j < cut k .count → s < 5 → at (view k j .msiq) s ≤ at (view k j .pricing) s
+    unfolding viewOf
+    msiq-most k j s l g i =
+        let x = stepOf d k j in
+        rw (view-is k j l g, five-at (msiqOn x) s i, five-at (pricingOn x) s i) (layers .msiq-most x s i)
+
+    -- m and C of a step of the view are the definitions'
+    match-is : (k j s r : ℕ) → s < 5 → matchIn (viewOf d k j) s r ≡ matched (onStep (stepOf d k j)) s r
+    unfolding viewOf
+    match-is k j s r l = match-at (viewOf d k j) (onStep (stepOf d k j)) refl s r l
+
+    made-is : (k j s : ℕ) → s < 5 → matchesMade (viewOf d k j) s ≡ sumTo s (matched (onStep (stepOf d k j)) s)
+    unfolding matchesMade
+    made-is k j s l =
+        sum-same s (matchIn (viewOf d k j) s) (matched (onStep (stepOf d k j)) s) (λ r g. match-is k j s r l)
+
+    falls : (k j s : ℕ) → k < lineCount d → j < cut k .count → s < 5 → matchesMade (view k j) s ≡ fall (view k j .constrained) s
+    unfolding viewOf
+    falls k j s l g i = rw (view-is k j l g) (made-is k j s i ∙ layers .falls (onStep (stepOf d k j)) s)
+
+    rises : (k j r : ℕ) → k < lineCount d → j < cut k .count → r < 5 → matchesWith (view k j) r ≤ rise (view k j .constrained) r
+    unfolding viewOf matchesWith
+    rises k j r l g i =
+        let c = onStep (stepOf d k j) in
+        let e = sum-same 5 (λ s. matchIn (viewOf d k j) s r) (λ s. matched c s r) (λ s n. match-is k j s r n) in
+        rw (view-is k j l g, e) (layers .rises c 5 r)
+
+    balance : (k j s : ℕ) → k < lineCount d → j < cut k .count → s < 5 → sumTo (suc s) (rise (view k j .constrained)) ≡ at (view k j .constrained) s + sumTo (suc s) (matchesMade (view k j))
+    unfolding viewOf
+    balance k j s l g i =
+        let c = onStep (stepOf d k j) in
+        let e = sum-same (suc s) (matchesMade (viewOf d k j)) (λ n. sumTo n (matched c n)) (λ n m. made-is k j n (omega arith)) in
+        rw (view-is k j l g, e) (layers .balance c s)
+
+  -- money, read back out of the book
+  totals-bounded : Bounded (totals d)
+  unfolding totals total
+  totals-bounded =
+      record {
+        most =
+            λ s l.
+            let c = accepted-day d h .header .count-most in
+            let m = sumZ-size (lineCount d) (quantityMost * priceMost) (linePayment d s) (λ k g. payment-size layers d h k g s l) in
+            rw (at-five (total d) s l) (omega arith);
+      }
+
+  module _ (rest : List ℕ) where
+    abbrev book : List ℕ
+    book = bookOf d ++ rest
+
+    adjusted-is : (s : ℕ) → s < 5 → adjustedIn book s ≡ adjustedTotal d s
+    unfolding adjustedIn adjustedTotal
+    adjusted-is s l =
+        let m = adjusted-size (totals d) totals-bounded s l in
+        book-adjusted d rest s l (mag-size (adjustedTotal d s) (omega arith))
+
+    payments-is : (k : ℕ) → k < lineCount d → paymentsIn book k ≡ linePayments d k
+    unfolding paymentsIn linePayments
+    payments-is k l =
+        sumZ-same 5 (λ s. signedAt book (paymentAt k s)) (λ s. linePayment d s k)
+        (λ s g. book-payment d rest k s l g (mag-size (linePayment d s k) (omega (arith, payment-size layers d h k l s g))))
+
+    lines-is : word book 0 ≡ lineCount d
+    lines-is =
+        let c = accepted-day d h .header .count-most in
+        book-words d rest .word0 (omega arith)
+
+    sum-is : sumZ 5 (adjustedIn book) ≡ sumZ (word book 0) (paymentsIn book)
+    sum-is =
+        rw lines-is
+        (sumZ-same 5 (adjustedIn book) (adjustedTotal d) adjusted-is
+        ∙ adjusted-payments d
+        ∙ sym (sumZ-same (lineCount d) (paymentsIn book) (linePayments d) payments-is))
+
+    order-is : (r s : ℕ) → r < s → s < 5 → ltZ (pos 0) (adjustedIn book r) ≡ true → ltZ (adjustedIn book s) (pos 0) ≡ false
+    order-is r s l g e =
+        let p = ltZ-yes (pos 0) (adjustedTotal d r) (rw (adjusted-is r (omega arith)) at e) in
+        let m = adjusted-order d r s l g (omega arith) in
+        rw (adjusted-is s g) (le-ltZ (adjustedTotal d s) (pos 0) (omega arith))
+
+-- THE CERTIFICATE, of answers that meet the contracts of settling, the step view and the cutter
+pub certified-by : Layers → (d b book : List ℕ) (view : ℕ → ℕ → View) (cut : ℕ → Cut) → dayFault d ≡ 0 → bookLength (lineCount d) ≤ length b → book ≡ bookAfter d b → ((k j : ℕ) → view k j ≡ viewAnswer d k j) → ((k : ℕ) → cut k ≡ cutAnswer (lineAt d k)) → Certified d book view cut
+certified-by layers d b book view cut h l settled viewed cutted =
+    let rest = drop (bookLength (lineCount d)) b in
+    let vs : (k j : ℕ) → k < lineCount d → j < stepCount (lineAt d k) → view k j ≡ viewOf d k j = λ k j g i. viewed k j ∙ view-whole d h k j g i in
+    let cs : (k : ℕ) → k < lineCount d → cut k ≡ cutOf (lineAt d k) = λ k g. cutted k ∙ cut-whole d h k g in
+    rw (settled ∙ after-settling d b (settle-taken d h b l))
+    (record {
+      cut-taken = cut-number layers d h view cut vs cs;
+      view-taken = view-number layers d h view cut vs cs;
+      widths = widths layers d h view cut vs cs;
+      same-end = same-end layers d h view cut vs cs;
+      same-width = same-width layers d h view cut vs cs;
+      pricing-sum = pricing-sum layers d h view cut vs cs;
+      operating-sum = operating-sum layers d h view cut vs cs;
+      agino-most = agino-most layers d h view cut vs cs;
+      msiq-most = msiq-most layers d h view cut vs cs;
+      falls = falls layers d h view cut vs cs;
+      rises = rises layers d h view cut vs cs;
+      balance = balance layers d h view cut vs cs;
+      lines = lines-is layers d h rest;
+      adjusted-sum = sum-is layers d h rest;
+      adjusted-order = order-is layers d h rest;
+    })

@@ -1,0 +1,23 @@
+-- `inputs::capped` meets its contract.
+use borrow.Author.Needs.{needs}
+use borrow.Author.Tests.{eq-eqb, ne-eqb}
+use Rattle.rules.specs.Fold.{before}
+use Rattle.inputs.specs.Inputs.{cappedAt}
+use Rattle.inputs.proofs.capped.Statement.{statement}
+use Rattle.inputs.proofs.capped.Tie as tie
+
+returns : tie.Need-returns
+unfolding cappedAt
+returns c = simp (eq-eqb _ _ (c .before .if1 .taken)) (c .lesser .ensures)
+
+returns-2 : tie.Need-returns-2
+unfolding cappedAt
+returns-2 c = simp (ne-eqb _ _ (c .if1 .left))
+
+pub capped-spec : {M : Type 1} → statement M
+capped-spec =
+    tie.close
+    (tie.spec
+    (λ c κs. search needs)
+    returns
+    returns-2)

@@ -1,0 +1,33 @@
+-- `inputs::capped_row` meets its contract.
+use borrow.Author.Needs.{needs}
+use Rattle.rules.specs.Fold.{before}
+use Rattle.rules.specs.Steps.{capped}
+use Rattle.laws.specs.Folds.{same-five}
+use Rattle.inputs.specs.Inputs.{cappedIn}
+use Rattle.inputs.proofs.capped_row.Statement.{statement}
+use Rattle.inputs.proofs.capped_row.Tie as tie
+
+returns : tie.Need-returns
+unfolding cappedIn
+returns c = same-five (c .before .before .before .before .capped .ensures) (c .before .before .before .capped2 .ensures) (c .before .before .capped3 .ensures) (c .before .capped4 .ensures) (c .capped5 .ensures)
+
+pub capped-row-spec : {M : Type 1} → statement M
+capped-row-spec =
+    tie.close
+    (tie.spec
+    (λ c. search needs)
+    (λ c. search needs)
+    (λ c κs. search needs)
+    (λ c. search needs)
+    (λ c. search needs)
+    (λ c κs. search needs)
+    (λ c. search needs)
+    (λ c. search needs)
+    (λ c κs. search needs)
+    (λ c. search needs)
+    (λ c. search needs)
+    (λ c κs. search needs)
+    (λ c. search needs)
+    (λ c. search needs)
+    (λ c κs. search needs)
+    returns)

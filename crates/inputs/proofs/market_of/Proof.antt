@@ -1,0 +1,19 @@
+-- `inputs::market_of` meets its contract.
+use borrow.Author.Needs.{needs}
+use Rattle.rules.specs.Fold.{before}
+use Rattle.inputs.proofs.Laws.{market-is}
+use Rattle.inputs.proofs.market_of.Statement.{statement}
+use Rattle.inputs.proofs.market_of.Tie as tie
+
+returns : tie.Need-returns
+returns c = market-is _ _ _ _ _ (c .before .before .before .market-row .ensures) (c .before .before .market-row2 .ensures) (c .before .word-at .ensures) (c .word-at2 .ensures)
+
+pub market-of-spec : {M : Type 1} → statement M
+market-of-spec =
+    tie.close
+    (tie.spec
+    (λ c κs. search needs)
+    (λ c κs. search needs)
+    (λ c κs. search needs)
+    (λ c κs. search needs)
+    returns)

@@ -1,0 +1,18 @@
+-- `inputs::paid_row` meets its contract.
+use borrow.Author.Needs.{needs}
+use Rattle.rules.specs.Steps.{paid}
+use Rattle.laws.specs.Folds.{same-five}
+use Rattle.inputs.specs.Inputs.{paidIn}
+use Rattle.inputs.proofs.paid_row.Statement.{statement}
+use Rattle.inputs.proofs.paid_row.Tie as tie
+
+returns : tie.Need-returns
+unfolding paidIn
+returns c = same-five (c .paid .ensures) (c .paid .ensures) (c .paid .ensures) (c .paid .ensures) (c .paid .ensures)
+
+pub paid-row-spec : {M : Type 1} → statement M
+paid-row-spec =
+    tie.close
+    (tie.spec
+    (λ c κs. search needs)
+    returns)

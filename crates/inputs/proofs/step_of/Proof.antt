@@ -1,0 +1,17 @@
+-- `inputs::step_of` meets its contract.
+use borrow.Author.Needs.{needs}
+use Rattle.rules.specs.Fold.{before}
+use Rattle.inputs.proofs.Laws.{step-from-is}
+use Rattle.inputs.proofs.step_of.Statement.{statement}
+use Rattle.inputs.proofs.step_of.Tie as tie
+
+returns : tie.Need-returns
+returns c = step-from-is _ _ _ _ _ _ _ _ (c .before .capped-row .ensures) (c .paid-row .ensures)
+
+pub step-of-spec : {M : Type 1} → statement M
+step-of-spec =
+    tie.close
+    (tie.spec
+    (λ c κs. search needs)
+    (λ c κs. search needs)
+    returns)

@@ -1,0 +1,2 @@
+-- Laws that the proofs of `matching` cite.
+pub mod Entering

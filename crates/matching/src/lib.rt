@@ -1,0 +1,92 @@
+// Document 01, "Matching": the ledger of open rises, the match table of one step and the ten matches.
+
+use numbers::less;
+use numbers::lesser;
+ghost use mathlib.Core.Path.{_≡_};
+ghost use Rattle.rules.specs.Fold.{five};
+ghost use Rattle.rules.specs.Matching.{tenMatches};
+ghost use Rattle.matching.specs.Ledgers.{entered, matchRow};
+
+// What is left of the rises of the schedules before, the latest first. At most four are open before a schedule.
+pub struct Ledger {
+    pub rises: [u32; 4],
+}
+
+// What a schedule takes of each open rise, and the ledger that it leaves.
+pub struct Matched {
+    pub matches: [u32; 4],
+    pub next: Ledger,
+}
+
+impl Ledger {
+    // before the first schedule
+    pub fn empty() -> Self {
+        Ledger { rises: [0; 4] }
+    }
+
+    // A schedule with C = `now`, where that of the schedule before is `before`, takes its fall from the open rises, the
+    // latest first, and its own rise is open after it.
+    pub fn enter(self, before: u32, now: u32) -> Matched
+        ensures { λ r. ⌜ r ≡ entered self before now ⌝ }
+    {
+        let open = self.rises;
+        let fall = less(before, now);
+        let first = lesser(fall, open[0]);
+        let past_first = fall - first;
+        let second = lesser(past_first, open[1]);
+        let past_second = past_first - second;
+        let third = lesser(past_second, open[2]);
+        let fourth = lesser(past_second - third, open[3]);
+        let left = [
+            less(now, before),
+            open[0] - first,
+            open[1] - second,
+            open[2] - third,
+        ];
+        Matched {
+            matches: [first, second, third, fourth],
+            next: Ledger { rises: left },
+        }
+    }
+}
+
+// m(r, s) at row s and column r, from C
+pub fn match_table(c: [u32; 5]) -> [[u32; 5]; 5]
+    ensures { λ r. ⌜ r ≡ five (matchRow c) ⌝ }
+{
+    let first = Ledger::empty().enter(0, c[0]);
+    let second = first.next.enter(c[0], c[1]);
+    let third = second.next.enter(c[1], c[2]);
+    let fourth = third.next.enter(c[2], c[3]);
+    let fifth = fourth.next.enter(c[3], c[4]);
+    let m2 = second.matches;
+    let m3 = third.matches;
+    let m4 = fourth.matches;
+    let m5 = fifth.matches;
+    [
+        [0, 0, 0, 0, 0],
+        [m2[0], 0, 0, 0, 0],
+        [m3[1], m3[0], 0, 0, 0],
+        [m4[2], m4[1], m4[0], 0, 0],
+        [m5[3], m5[2], m5[1], m5[0], 0],
+    ]
+}
+
+// m(1,2) m(1,3) m(2,3) m(1,4) .. m(4,5), from C
+pub fn ten_matches(c: [u32; 5]) -> [u32; 10]
+    ensures { λ r. ⌜ r ≡ tenMatches c ⌝ }
+{
+    let t = match_table(c);
+    [
+        t[1][0],
+        t[2][0],
+        t[2][1],
+        t[3][0],
+        t[3][1],
+        t[3][2],
+        t[4][0],
+        t[4][1],
+        t[4][2],
+        t[4][3],
+    ]
+}

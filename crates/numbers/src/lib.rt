@@ -1,0 +1,65 @@
+// Plain arithmetic that the other crates share: lesser and greater, truncated difference, widening, a signed difference, and
+// a share t * d / b.
+
+ghost use mathlib.Core.Path.{_≡_};
+ghost use Prim.Native.Nat.{_*_, _-_, _/_, _<_, _≤_, _^_, min, max};
+ghost use lib.IntN.{subℕ};
+
+pub fn lesser(a: u32, b: u32) -> u32
+    ensures { λ r. ⌜ r ≡ min a b ⌝ }
+{
+    if a < b { a } else { b }
+}
+
+pub fn greater(a: u32, b: u32) -> u32
+    ensures { λ r. ⌜ r ≡ max a b ⌝ }
+{
+    if a < b { b } else { a }
+}
+
+// a - b, or 0 where that would be below 0
+pub fn less(a: u32, b: u32) -> u32
+    ensures { λ r. ⌜ r ≡ a - b ⌝ }
+{
+    if b < a { a - b } else { 0 }
+}
+
+pub fn lesser64(a: u64, b: u64) -> u64
+    ensures { λ r. ⌜ r ≡ min a b ⌝ }
+{
+    if a < b { a } else { b }
+}
+
+pub fn greater64(a: u64, b: u64) -> u64
+    ensures { λ r. ⌜ r ≡ max a b ⌝ }
+{
+    if a < b { b } else { a }
+}
+
+pub fn less64(a: u64, b: u64) -> u64
+    ensures { λ r. ⌜ r ≡ a - b ⌝ }
+{
+    if b < a { a - b } else { 0 }
+}
+
+pub fn wide(x: u32) -> u64
+    ensures { λ r. ⌜ r ≡ x ⌝ }
+{
+    x as u64
+}
+
+// plus - minus
+pub fn signed(plus: u64, minus: u64) -> i64
+    requires { ⌜ (plus < 2 ^ 63) × (minus < 2 ^ 63) ⌝ }
+    ensures { λ r. ⌜ r ≡ subℕ plus minus ⌝ }
+{
+    plus as i64 - minus as i64
+}
+
+// t * d / b, rounded down, of which no bit is lost: d is at most b, and each part fits.
+pub fn share(t: u64, d: u64, b: u64) -> u64
+    requires { ⌜ (0 < b) × (d ≤ b) × (b < 2 ^ 34) × (d < 2 ^ 28) ⌝ }
+    ensures { λ r. ⌜ r ≡ t * d / b ⌝ }
+{
+    t / b * d + t % b * d / b
+}

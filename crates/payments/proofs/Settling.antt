@@ -1,0 +1,148 @@
+-- What the final payments take back, by the code's rows, and that all money fits a signed number.
+use Prim.Native.Nat.{ℕ, zero, suc, _+_, _*_, _-_, _/_, _≤_, _<_, _^_, min, max}
+use native.Mathlib.Nat.{zero-mul}
+use native.Mathlib.Omega.{arith}
+use mathlib.Core.Path.{_≡_, refl, sym, _∙_, ap}
+use mathlib.Core.Bool.{Bool, true, false, cond, _&&_}
+use mathlib.Core.List.{List}
+use lib.Dec.{eqb, ltb}
+use lib.IntN.{ℤ}
+use borrow.Author.Tests.{ne-eqb, lt-ltb}
+use Rattle.rules.specs.Fold.{five, at}
+use Rattle.rules.specs.Layout.{quantityMost, priceMost}
+use Rattle.rules.specs.Matching.{rise, fall}
+use Rattle.rules.specs.Payments.{Pool, onStep, rate, isPaid, initial, revised, modified, finalPayment}
+use Rattle.rules.specs.declared.Step.{Step}
+use Rattle.laws.specs.Ints.{pl, mi, pl-subℕ, parts}
+use Rattle.numbers.specs.Fives.{at-five, five-is, five-same, five-most}
+use Rattle.payments.specs.declared.SidePool.{SidePool}
+use Rattle.payments.specs.Sizes.{Sized}
+use Rattle.payments.specs.Parts.{changeOn, initial-minus, takenBack, sharedTotal, revised-most, final-plus, final-minus}
+use Rattle.payments.specs.Kinds.{Within, initial-within, fall-within}
+use Rattle.payments.specs.Amounts.{plusOf, minusOf, moneyOf, paymentOf, Signable, poolAt, totalIn, baseIn, takenIn, Sharing, InPool, finalOn}
+
+-- the pool's T and B
+total-by : (n t : ℕ) → cond (ltb 0 n) t 0 ≡ cond (eqb n 0) 0 t
+total-by zero t = refl
+total-by (suc n) t = rw (lt-ltb 0 (suc n) (omega arith), ne-eqb (suc n) 0 (λ q. omega arith))
+
+shared-total : (p : SidePool) (s : ℕ) → sharedTotal (poolAt p s) ≡ totalIn p s
+unfolding sharedTotal poolAt totalIn
+shared-total p s =
+    rw (pl-subℕ (at (p .plus) s) (at (p .minus) s))
+    (total-by (at (p .differs) s) (at (p .plus) s - at (p .minus) s))
+
+-- the fall counts only where the initial payment takes something back
+no-taking : (a : Bool) (x y : ℕ) → cond (a && false) x y ≡ y
+no-taking true x y = refl
+no-taking false x y = refl
+
+taken-fall : (claw flag i r m d e t b : ℕ) → (0 < i → d ≡ e) → takenBack claw flag i r m d t b ≡ takenBack claw flag i r m e t b
+unfolding takenBack
+taken-fall claw flag zero r m d e t b h =
+    rw (no-taking (ltb 0 t) (min 0 (r + t * d / b)) r, no-taking (ltb 0 t) (min 0 (r + t * e / b)) r)
+taken-fall claw flag (suc i) r m d e t b h = rw (h (omega arith))
+
+paid-fall-by : (t : Bool) (i d n : ℕ) → i ≡ cond t d 0 * n → 0 < i → d ≡ cond t d 0
+paid-fall-by true i d n e h = refl
+paid-fall-by false i d n e h = absurd (omega (arith, zero-mul n))
+
+paid-fall : (x : Step) (s : ℕ) → 0 < mi (initial x s) → fall (onStep x) s ≡ changeOn fall x s
+unfolding changeOn
+paid-fall x s h = paid-fall-by (isPaid x s) (mi (initial x s)) (fall (onStep x) s) (rate x s) (initial-minus x s) h
+
+finished : (x : Step) (claw s : ℕ) (p : SidePool) → mi (finalPayment x claw s (poolAt p s)) ≡ cond (eqb s 0) (mi (initial x s)) (takenBack claw (at (x .flag) s) (mi (initial x s)) (mi (revised x s)) (mi (modified x s)) (changeOn fall x s) (totalIn p s) (baseIn p s))
+unfolding poolAt baseIn
+finished x claw s p =
+    final-minus x claw s (poolAt p s)
+    ∙ rw (shared-total p s)
+      (ap (λ (n : ℕ). cond (eqb s 0) (mi (initial x s)) n)
+      (taken-fall claw (at (x .flag) s) (mi (initial x s)) (mi (revised x s)) (mi (modified x s)) (fall (onStep x) s) (changeOn fall x s) (totalIn p s)
+      (max (at (p .rises) s) (at (p .falls) s)) (paid-fall x s)))
+
+-- the rows that the final payments are worked out from
+pub record Rows (x : Step) (p : SidePool) (i r m d t b : List ℕ) : Type 0 where
+  pub initials : i ≡ five (minusOf (initial x))
+  pub reviseds : r ≡ five (minusOf (revised x))
+  pub modifieds : m ≡ five (minusOf (modified x))
+  pub falls : d ≡ five (changeOn fall x)
+  pub totals : t ≡ five (totalIn p)
+  pub bases : b ≡ five (baseIn p)
+
+-- what final takes back
+final-entry : (x : Step) (claw : ℕ) (p : SidePool) (s : ℕ) → s < 5 → takenIn claw (x .flag) (five (minusOf (initial x))) (five (minusOf (revised x))) (five (minusOf (modified x))) (five (changeOn fall x)) (five (totalIn p)) (five (baseIn p)) s ≡ minusOf (finalOn x claw p) s
+unfolding takenIn minusOf finalOn
+final-entry x claw p s h =
+    rw
+    (at-five (minusOf (initial x)) s h,
+    at-five (minusOf (revised x)) s h,
+    at-five (minusOf (modified x)) s h,
+    at-five (changeOn fall x) s h,
+    at-five (totalIn p) s h,
+    at-five (baseIn p) s h)
+    (sym (finished x claw s p))
+
+pub final-row : (x : Step) (claw : ℕ) (p : SidePool) {i r m d t b q : List ℕ} → Rows x p i r m d t b → q ≡ five (takenIn claw (x .flag) i r m d t b) → q ≡ five (minusOf (finalOn x claw p))
+final-row x claw p w e =
+    e
+    ∙ rw (w .initials, w .reviseds, w .modifieds, w .falls, w .totals, w .bases)
+      (five-same (takenIn claw (x .flag) (five (minusOf (initial x))) (five (minusOf (revised x))) (five (minusOf (modified x))) (five (changeOn fall x)) (five (totalIn p)) (five (baseIn p))) (minusOf (finalOn x claw p)) (final-entry x claw p))
+
+pub final-pays : (x : Step) (claw : ℕ) (p : SidePool) → five (plusOf (initial x)) ≡ five (plusOf (finalOn x claw p))
+unfolding plusOf finalOn
+final-pays x claw p = five-same (plusOf (initial x)) (plusOf (finalOn x claw p)) (λ s h. sym (final-plus x claw s (poolAt p s)))
+
+-- a share of T fits
+total-most : (n t u : ℕ) → cond (eqb n 0) 0 (t - u) ≤ t
+total-most zero t u = omega arith
+total-most (suc n) t u = rw (ne-eqb (suc n) 0 (λ q. omega arith)) (omega arith)
+
+some-by : (d n : ℕ) → 0 < d * n → 0 < d
+some-by zero n h = omega (arith, zero-mul n)
+some-by (suc d) n h = omega arith
+
+sharing-at : (x : Step) (p : SidePool) (s : ℕ) → Sized x → InPool x p → Sharing (mi (initial x s)) (mi (revised x s)) (changeOn fall x s) (totalIn p s) (baseIn p s)
+unfolding totalIn baseIn
+sharing-at x p s z k =
+    record {
+      part = omega (arith, k .within s);
+      some = λ h. omega (arith, k .within s, some-by (changeOn fall x s) (rate x s) (omega (arith, initial-minus x s)));
+      base = omega (arith, k .rising s, k .falling s);
+      fall = omega (arith, fall-within x s z);
+      fits =
+        omega
+        (arith,
+        revised-most x s,
+        initial-within x s z .taken,
+        k .paying s,
+        total-most (at (p .differs) s) (at (p .plus) s) (at (p .minus) s));
+    }
+
+pub sharing : (x : Step) (p : SidePool) {i r m d t b : List ℕ} → Rows x p i r m d t b → Sized x → InPool x p → (s : ℕ) → s < 5 → Sharing (at i s) (at r s) (at d s) (at t s) (at b s)
+unfolding minusOf
+sharing x p w z k s h =
+    rw
+    (w .initials,
+    w .reviseds,
+    w .falls,
+    w .totals,
+    w .bases,
+    at-five (minusOf (initial x)) s h,
+    at-five (minusOf (revised x)) s h,
+    at-five (changeOn fall x) s h,
+    at-five (totalIn p) s h,
+    at-five (baseIn p) s h)
+    (sharing-at x p s z k)
+
+-- money of payments within the limits is held by signed numbers, and is those payments
+pub signable : (f : ℕ → ℤ) → ((s : ℕ) → Within (quantityMost * priceMost) (f s)) → Signable (moneyOf f)
+unfolding moneyOf plusOf minusOf
+signable f w =
+    record {
+      plus = λ s. omega (arith, five-most (plusOf f) (quantityMost * priceMost) (λ t h. w t .paid) s);
+      minus = λ s. omega (arith, five-most (minusOf f) (quantityMost * priceMost) (λ t h. w t .taken) s);
+    }
+
+pub money-back : (f : ℕ → ℤ) → five (paymentOf (moneyOf f)) ≡ five f
+unfolding paymentOf moneyOf plusOf minusOf
+money-back f = five-is f (sym (parts (f 0))) (sym (parts (f 1))) (sym (parts (f 2))) (sym (parts (f 3))) (sym (parts (f 4)))

@@ -1,0 +1,18 @@
+-- `payments::initial` meets its contract.
+use borrow.Author.Needs.{needs}
+use Rattle.rules.specs.Payments.{initial}
+use Rattle.payments.specs.Kinds.{initial-within}
+use Rattle.payments.proofs.Settling.{signable, money-back}
+use Rattle.payments.proofs.initial.Statement.{statement}
+use Rattle.payments.proofs.initial.Tie as tie
+
+signed-money-requires : tie.Need-signed-money-requires
+signed-money-requires c κs = 
+    let x = c .before .args .x in
+    rw (c .initial-money .ensures) (signable (initial x) (λ s. initial-within x s (c .before .pre)))
+
+returns : tie.Need-returns
+returns c = rw (c .signed-money .ensures, c .before .initial-money .ensures) (money-back (initial (c .before .before .args .x)))
+
+pub initial-spec : {M : Type 1} → statement M
+initial-spec = tie.close (tie.spec (λ c κs. search needs) signed-money-requires returns)

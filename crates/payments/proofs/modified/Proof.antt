@@ -1,0 +1,18 @@
+-- `payments::modified` meets its contract.
+use borrow.Author.Needs.{needs}
+use Rattle.rules.specs.Payments.{modified}
+use Rattle.payments.specs.Kinds.{modified-within}
+use Rattle.payments.proofs.Settling.{signable, money-back}
+use Rattle.payments.proofs.modified.Statement.{statement}
+use Rattle.payments.proofs.modified.Tie as tie
+
+signed-money-requires : tie.Need-signed-money-requires
+signed-money-requires c κs = 
+    let x = c .before .args .x in
+    rw (c .modified-money .ensures) (signable (modified x) (λ s. modified-within x s (c .before .pre)))
+
+returns : tie.Need-returns
+returns c = rw (c .signed-money .ensures, c .before .modified-money .ensures) (money-back (modified (c .before .before .args .x)))
+
+pub modified-spec : {M : Type 1} → statement M
+modified-spec = tie.close (tie.spec (λ c κs. search needs) signed-money-requires returns)

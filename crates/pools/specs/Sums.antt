@@ -1,0 +1,106 @@
+-- Rows of five, pools and money added up over the numbers below a count.
+use Prim.Native.Nat.{ℕ, zero, suc, _+_, _≤_, _<_}
+use native.Mathlib.Omega.{arith}
+use native.Mathlib.Numerals.{add-one}
+use mathlib.Core.Path.{_≡_, refl, sym, _∙_, ap}
+use mathlib.Core.List.{List}
+use mathlib.Core.Bool.{Bool, true, false, _||_}
+use lib.Dec.{ltb}
+use lib.IntN.{ℤ, pos}
+use borrow.Author.Tests.{lt-ltb, le-ltb, ltb-true, ltb-false}
+use Rattle.rules.specs.Fold.{sumTo, sumZ, someTo, five, at}
+use Rattle.laws.specs.Folds.{sum-more, sum-suc, sum-none, sumZ-none, sumZ-suc, some-none, some-suc, same-five}
+use Rattle.laws.specs.Ints.{Split, split-none, split-add}
+use Rattle.payments.specs.declared.SidePool.{SidePool}
+use Rattle.payments.specs.declared.Money.{Money}
+use Rattle.payments.specs.Amounts.{sumIn, poolSum, moneySum}
+
+-- the sum over i below n of place s of row i
+unfoldable pub placeOf : (ℕ → List ℕ) → ℕ → ℕ → ℕ
+placeOf f s i = at (f i) s
+
+unfoldable pub rowTo : ℕ → (ℕ → List ℕ) → ℕ → ℕ
+rowTo n f s = sumTo n (placeOf f s)
+
+row-more : (n : ℕ) (f : ℕ → List ℕ) → five (rowTo (n + 1) f) ≡ five (sumIn (five (rowTo n f)) (f n))
+unfolding rowTo sumIn placeOf
+row-more n f = same-five (sum-more n _) (sum-more n _) (sum-more n _) (sum-more n _) (sum-more n _)
+
+row-none : (f g : ℕ → List ℕ) → five (rowTo 0 f) ≡ five (rowTo 0 g)
+unfolding rowTo sumTo
+row-none f g = refl
+
+-- pools
+unfoldable pub plusOf : (ℕ → SidePool) → ℕ → List ℕ
+plusOf f i = f i .plus
+
+unfoldable pub minusOf : (ℕ → SidePool) → ℕ → List ℕ
+minusOf f i = f i .minus
+
+unfoldable pub risesOf : (ℕ → SidePool) → ℕ → List ℕ
+risesOf f i = f i .rises
+
+unfoldable pub fallsOf : (ℕ → SidePool) → ℕ → List ℕ
+fallsOf f i = f i .falls
+
+unfoldable pub differsOf : (ℕ → SidePool) → ℕ → List ℕ
+differsOf f i = f i .differs
+
+unfoldable pub poolTo : ℕ → (ℕ → SidePool) → SidePool
+poolTo n f =
+    record {
+      plus = five (rowTo n (plusOf f));
+      minus = five (rowTo n (minusOf f));
+      rises = five (rowTo n (risesOf f));
+      falls = five (rowTo n (fallsOf f));
+      differs = five (rowTo n (differsOf f))
+    }
+
+pub pool-more : (n : ℕ) (f : ℕ → SidePool) → poolTo (n + 1) f ≡ poolSum (poolTo n f) (f n)
+unfolding poolTo poolSum plusOf minusOf risesOf fallsOf differsOf
+pool-more n f = rw (row-more n (λ i. f i .plus), row-more n (λ i. f i .minus), row-more n (λ i. f i .rises), row-more n (λ i. f i .falls), row-more n (λ i. f i .differs))
+
+pub pool-none : (f g : ℕ → SidePool) → poolTo 0 f ≡ poolTo 0 g
+unfolding poolTo
+pool-none f g = rw (row-none (plusOf f) (plusOf g), row-none (minusOf f) (minusOf g), row-none (risesOf f) (risesOf g), row-none (fallsOf f) (fallsOf g), row-none (differsOf f) (differsOf g))
+
+-- money
+unfoldable pub paidOf : (ℕ → Money) → ℕ → List ℕ
+paidOf f i = f i .plus
+
+unfoldable pub takenOf : (ℕ → Money) → ℕ → List ℕ
+takenOf f i = f i .minus
+
+unfoldable pub moneyTo : ℕ → (ℕ → Money) → Money
+moneyTo n f = record { plus = five (rowTo n (paidOf f)); minus = five (rowTo n (takenOf f)) }
+
+pub money-more : (n : ℕ) (f : ℕ → Money) → moneyTo (n + 1) f ≡ moneySum (moneyTo n f) (f n)
+unfolding moneyTo moneySum paidOf takenOf
+money-more n f = rw (row-more n (λ i. f i .plus), row-more n (λ i. f i .minus))
+
+pub money-none : (f g : ℕ → Money) → moneyTo 0 f ≡ moneyTo 0 g
+unfolding moneyTo
+money-none f g = rw (row-none (paidOf f) (paidOf g), row-none (takenOf f) (takenOf g))
+
+-- a signed sum by what is paid and what is taken back
+pub sum-split : (n : ℕ) (f : ℕ → ℤ) (p m : ℕ → ℕ) → ((i : ℕ) → i < n → Split (f i) (p i) (m i)) → Split (sumZ n f) (sumTo n p) (sumTo n m)
+sum-split zero f p m h = rw (sumZ-none f, sum-none p, sum-none m) split-none
+sum-split (suc n) f p m h =
+    let r = sum-split n f p m (λ i l. h i (omega arith)) in
+    rw (sumZ-suc n f, sum-suc n p, sum-suc n m) (split-add r (h n (omega arith)))
+
+-- a sum is above 0 where a term is
+some-or : (a b : ℕ) → ltb 0 (a + b) ≡ ltb 0 a || ltb 0 b
+some-or a b = go (ltb 0 a) (ltb 0 b) refl refl
+  where
+    go : (t u : Bool) → ltb 0 a ≡ t → ltb 0 b ≡ u → ltb 0 (a + b) ≡ t || u
+    go true u e g = lt-ltb 0 (a + b) (omega (arith, ltb-true 0 a e))
+    go false true e g = lt-ltb 0 (a + b) (omega (arith, ltb-true 0 b g))
+    go false false e g = le-ltb 0 (a + b) (omega (arith, ltb-false 0 a e, ltb-false 0 b g))
+
+pub some-sum : (n : ℕ) (f : ℕ → ℕ) (p : ℕ → Bool) → ((i : ℕ) → i < n → ltb 0 (f i) ≡ p i) → ltb 0 (sumTo n f) ≡ someTo n p
+some-sum zero f p h = rw (sum-none f, some-none p)
+some-sum (suc n) f p h =
+    let r = some-sum n f p (λ i l. h i (omega arith)) in
+    let e = h n (omega arith) in
+    rw (sum-suc n f, some-suc n p, some-or (sumTo n f) (f n), r, e)

@@ -1,0 +1,139 @@
+// Pools of a line's steps and of a side's lines, and what a line is paid.
+use day::{line_count, line_of};
+use inputs::{flag_row, price_row, step_of, totals_of, Market};
+use payments::{final_money, initial_money, money_add, pool_add, step_pool, Money, SidePool};
+use rules::Step;
+
+ghost use mathlib.Core.Path.{_≡_};
+ghost use Prim.Native.Nat.{_<_};
+ghost use Rattle.rules.specs.Layout.{lineCount, lineAt};
+ghost use Rattle.rules.specs.Steps.{stepCount};
+ghost use Rattle.laws.specs.Accepted.{AcceptedDay};
+ghost use Rattle.inputs.specs.Inputs.{marketOf};
+ghost use Rattle.payments.specs.Sizes.{Sized};
+ghost use Rattle.payments.specs.Amounts.{moneyOf, finalOn};
+ghost use Rattle.pools.specs.Sums.{poolTo, moneyTo};
+ghost use Rattle.pools.specs.Sides.{stepPoolAt, linePool, sidePart, sidePool};
+ghost use Rattle.pools.specs.Lines.{stepMoney, noPool, poolIn, PoolFor, Payable, LineOf};
+
+// What a line is paid in all, and how many steps it has.
+pub struct LinePaid {
+    pub count: u32,
+    pub money: Money,
+}
+
+pub fn empty_pool() -> SidePool
+    ensures { λ r. ⌜ r ≡ noPool ⌝ }
+{
+    SidePool {
+        plus: [0; 5],
+        minus: [0; 5],
+        rises: [0; 5],
+        falls: [0; 5],
+        differs: [0; 5],
+    }
+}
+
+// The pool of line k's steps.
+fn line_pool(day: &[u8], k: usize, m: Market) -> SidePool
+    requires { ⌜ (AcceptedDay (now day)) × (k < lineCount (now day)) × (m ≡ marketOf (now day)) ⌝ }
+    ensures { λ r. ⌜ r ≡ linePool (now (day .entry)) k ⌝ }
+{
+    let line = line_of(day, k);
+    let t = totals_of(line);
+    let cut = cutter::steps(line);
+    let ends = cut.ends;
+    let prices = cut.prices;
+    let flags = cut.flags;
+    let n = cut.count as usize;
+    let mut pool = empty_pool();
+    let mut lower = 0;
+    let mut j = 0;
+    while j < n {
+        let upper = ends[j];
+        let x = step_of(m, t, lower, upper, price_row(&prices, j), flag_row(flags, j));
+        pool = pool_add(pool, step_pool(x));
+        lower = upper;
+        j += 1;
+    }
+    pool
+}
+
+// What line k adds to the pool of a side.
+fn side_part(day: &[u8], k: usize, m: Market, side: u32) -> SidePool
+    requires { ⌜ (AcceptedDay (now day)) × (k < lineCount (now day)) × (m ≡ marketOf (now day)) ⌝ }
+    ensures { λ r. ⌜ r ≡ sidePart (now (day .entry)) side k ⌝ }
+{
+    let line = line_of(day, k);
+    if bytes_le::word_at(line, 8) != side {
+        return empty_pool();
+    }
+    line_pool(day, k, m)
+}
+
+// The pool of a side.
+pub fn side_pool(day: &[u8], m: Market, side: u32) -> SidePool
+    requires { ⌜ (AcceptedDay (now day)) × (m ≡ marketOf (now day)) ⌝ }
+    ensures { λ r. ⌜ r ≡ sidePool (now (day .entry)) side ⌝ }
+{
+    let n = line_count(day);
+    let mut pool = empty_pool();
+    let mut k = 0;
+    while k < n {
+        pool = pool_add(pool, side_part(day, k, m, side));
+        k += 1;
+    }
+    pool
+}
+
+// The pool of a side, or none where clawback is off: no payment reads it then.
+pub fn pool_for(day: &[u8], m: Market, side: u32) -> SidePool
+    requires { ⌜ (AcceptedDay (now day)) × (m ≡ marketOf (now day)) ⌝ }
+    ensures { λ r. ⌜ PoolFor (now (day .entry)) side r ⌝ }
+{
+    if m.clawback == 0 {
+        return empty_pool();
+    }
+    side_pool(day, m, side)
+}
+
+// What a step is paid in the end.
+fn step_money(x: Step, claw: u32, p: SidePool) -> Money
+    requires { ⌜ (Sized x) × (Payable x claw p) ⌝ }
+    ensures { λ r. ⌜ r ≡ moneyOf (finalOn x claw p) ⌝ }
+{
+    if claw == 0 {
+        return initial_money(x);
+    }
+    final_money(x, claw, p)
+}
+
+// What line k is paid, with the pool of its side.
+pub fn line_paid(day: &[u8], k: usize, m: Market, p: SidePool) -> LinePaid
+    requires { ⌜ (AcceptedDay (now day)) × (k < lineCount (now day)) × (m ≡ marketOf (now day)) × (PoolFor (now day) (LineOf.side (now day) k) p) ⌝ }
+    ensures { λ r. ⌜ (r .count ≡ stepCount (lineAt (now (day .entry)) k)) × (r .money ≡ moneyTo (stepCount (lineAt (now (day .entry)) k)) (stepMoney (now (day .entry)) k)) ⌝ }
+{
+    let line = line_of(day, k);
+    let t = totals_of(line);
+    let cut = cutter::steps(line);
+    let ends = cut.ends;
+    let prices = cut.prices;
+    let flags = cut.flags;
+    let count = cut.count;
+    let claw = m.clawback;
+    let n = count as usize;
+    let mut money = Money {
+        plus: [0; 5],
+        minus: [0; 5],
+    };
+    let mut lower = 0;
+    let mut j = 0;
+    while j < n {
+        let upper = ends[j];
+        let x = step_of(m, t, lower, upper, price_row(&prices, j), flag_row(flags, j));
+        money = money_add(money, step_money(x, claw, p));
+        lower = upper;
+        j += 1;
+    }
+    LinePaid { count, money }
+}

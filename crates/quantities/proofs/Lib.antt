@@ -1,0 +1,2 @@
+-- Laws that the proofs of `quantities` cite.
+pub mod Chains

@@ -1,0 +1,12 @@
+-- `quantities::msiq_on` meets its contract.
+use borrow.Author.Needs.{needs}
+use Rattle.rules.specs.Payments.{msiqOn}
+use Rattle.quantities.proofs.msiq_on.Statement.{statement}
+use Rattle.quantities.proofs.msiq_on.Tie as tie
+
+returns : tie.Need-returns
+unfolding msiqOn
+returns c = rw (c .msiq .ensures, c .before .pricing-on .ensures)
+
+pub msiq-on-spec : {M : Type 1} → statement M
+msiq-on-spec = tie.close (tie.spec (λ c κs. search needs) (λ c κs. search needs) returns)

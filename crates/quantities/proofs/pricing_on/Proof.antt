@@ -1,0 +1,13 @@
+-- `quantities::pricing_on` meets its contract.
+use borrow.Author.Needs.{needs}
+use Rattle.rules.specs.Payments.{pricingOn}
+use Rattle.quantities.specs.Rows.{allocatedIn}
+use Rattle.quantities.proofs.pricing_on.Statement.{statement}
+use Rattle.quantities.proofs.pricing_on.Tie as tie
+
+returns : tie.Need-returns
+unfolding pricingOn allocatedIn
+returns c = c .allocate-all .ensures
+
+pub pricing-on-spec : {M : Type 1} → statement M
+pricing-on-spec = tie.close (tie.spec (λ c κs. search needs) returns)
