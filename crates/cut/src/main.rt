@@ -68,7 +68,50 @@ fn put_steps(out: &mut [u8], at: usize, r: Cut, count: usize) -> usize
     p
 }
 
-// The whole text.
+// The first line.
+fn put_head(out: &mut [u8], count: u32) -> usize
+    requires { ⌜ 25 ≤ length (now out) ⌝ }
+    ensures { λ p. ⌜ p ≤ 25 ⌝ }
+{
+    let a = put_bytes(out, 0, b"cut");
+    let b = put_number(out, a, count as u64);
+    put_byte(out, b, b'\n')
+}
+
+fn wide(v: [u32; 5]) -> [u64; 5] {
+    [v[0] as u64, v[1] as u64, v[2] as u64, v[3] as u64, v[4] as u64]
+}
+
+// The line of the flags' words.
+fn put_flags(out: &mut [u8], at: usize, flags: [u64; 5]) -> usize
+    requires { ⌜ at + 111 ≤ length (now out) ⌝ }
+    ensures { λ p. ⌜ p ≤ at + 111 ⌝ }
+{
+    let p = put_bytes(out, at, b"flags");
+    put_five(out, p, flags)
+}
+
+// The line of how many flags are set.
+fn put_missing(out: &mut [u8], at: usize, missing: [u32; 5]) -> usize
+    requires { ⌜ at + 113 ≤ length (now out) ⌝ }
+    ensures { λ p. ⌜ p ≤ at + 113 ⌝ }
+{
+    let p = put_bytes(out, at, b"missing");
+    put_five(out, p, wide(missing))
+}
+
+// The text of an answer with the number 0.
+fn put_whole(out: &mut [u8], r: Cut, count: usize) -> usize
+    requires { ⌜ (count ≤ 56) × (8000 ≤ length (now out)) ⌝ }
+    ensures { λ p. ⌜ p ≤ 8000 ⌝ }
+{
+    let a = put_head(out, r.count);
+    let b = put_steps(out, a, r, count);
+    let c = put_flags(out, b, r.flags);
+    put_missing(out, c, r.missing)
+}
+
+// The text of an answer.
 fn put_cut(out: &mut [u8], r: Cut) -> usize
     requires { ⌜ (r .count ≤ 56) × (8000 ≤ length (now out)) ⌝ }
     ensures { λ p. ⌜ p ≤ 8000 ⌝ }
@@ -76,24 +119,7 @@ fn put_cut(out: &mut [u8], r: Cut) -> usize
     if r.number != 0 {
         return put_refused(out, 0, r.number);
     }
-    let a = put_bytes(out, 0, b"cut");
-    let b = put_number(out, a, r.count as u64);
-    let c = put_byte(out, b, b'\n');
-    let d = put_steps(out, c, r, r.count as usize);
-    let e = put_bytes(out, d, b"flags");
-    let f = put_five(out, e, r.flags);
-    let g = put_bytes(out, f, b"missing");
-    put_five(
-        out,
-        g,
-        [
-            r.missing[0] as u64,
-            r.missing[1] as u64,
-            r.missing[2] as u64,
-            r.missing[3] as u64,
-            r.missing[4] as u64,
-        ],
-    )
+    put_whole(out, r, r.count as usize)
 }
 
 fn main() {

@@ -42,7 +42,7 @@ gap-requires-5 c κs = (c .before .before .before .before .before .before .befor
 
 -- src/lib.rt:177:47
 gap-requires-6 : tie.Need-gap-requires-6
-gap-requires-6 c κs = (c .before .before .before .before .before .before .before .before .pre .hedge, c .before .before .before .before .before .before .before .before .pre .end)
+gap-requires-6 c κs = (omega (arith, c .before .before .before .before .before .before .before .before .pre .hedge, c .before .before .before .before .before .before .before .before .pre .fifth), c .before .before .before .before .before .before .before .before .pre .end)
 
 -- src/lib.rt:177:17
 lesser-requires-4 : tie.Need-lesser-requires-4
