@@ -5,7 +5,6 @@ use text::put_byte;
 use text::put_bytes;
 use text::put_decimal;
 use text::put_refused;
-
 ghost use mathlib.Core.Path.{_≡_};
 ghost use Prim.Native.Nat.{_+_, _*_, _≤_};
 ghost use lib.ListN.{length};
@@ -79,7 +78,13 @@ fn put_head(out: &mut [u8], count: u32) -> usize
 }
 
 fn wide(v: [u32; 5]) -> [u64; 5] {
-    [v[0] as u64, v[1] as u64, v[2] as u64, v[3] as u64, v[4] as u64]
+    [
+        v[0] as u64,
+        v[1] as u64,
+        v[2] as u64,
+        v[3] as u64,
+        v[4] as u64,
+    ]
 }
 
 // The line of the flags' words.
@@ -105,10 +110,12 @@ fn put_whole(out: &mut [u8], r: Cut, count: usize) -> usize
     requires { ⌜ (count ≤ 56) × (8000 ≤ length (now out)) ⌝ }
     ensures { λ p. ⌜ p ≤ 8000 ⌝ }
 {
+    let flags = r.flags;
+    let missing = r.missing;
     let a = put_head(out, r.count);
     let b = put_steps(out, a, r, count);
-    let c = put_flags(out, b, r.flags);
-    put_missing(out, c, r.missing)
+    let c = put_flags(out, b, flags);
+    put_missing(out, c, missing)
 }
 
 // The text of an answer.
