@@ -10,7 +10,7 @@ use lib.ListN.{length, getD}
 use lib.Dec.{ltb, eqb}
 use borrow.Author.Tests.{lt-ltb, le-ltb, eq-eqb, ne-eqb}
 use Rattle.rules.specs.Fold.{before, joined, listTo}
-use Rattle.rules.specs.Layout.{hedge, bidCount, bidBreak, bidPrice}
+use Rattle.rules.specs.Layout.{quantityMost, hedge, bidCount, bidBreak, bidPrice}
 use Rattle.rules.specs.Steps.{bidStep, price, flag, ends, hedgePoint, bidBreaks, stepCount, upperEnd, lowerEnd, greatestBreak}
 use Rattle.laws.specs.Folds.{joined-none, joined-suc}
 use Rattle.laws.specs.Accepted.{AcceptedLine, AcceptedBid}
@@ -18,19 +18,10 @@ use Rattle.cutter.specs.Search.{First, step-is, first-stays, first-moves
 use Rattle.cutter.specs.Lists.{_∈_}
 use Rattle.cutter.specs.Ends.{end-of, end-most, most-limit, ends-rise}
 use Rattle.cutter.specs.Prices.{bid-first, price-min, flag-found, flag-none}
-use Rattle.cutter.specs.Sweep.{past, above, headAt, cursorAt, cursorFor, stepPrice, headFlag, stepAfter, hedgeMoved, sweepFor, sweepMoved, nextEnd, Steady, Within}
+use Rattle.cutter.specs.Sweep.{past, above, bitIf, cursorAt, cursorFor, cursorMoved, stepAfter, sweepFor, sweepMoved, gapOf, nextGap, Within, Limited}
 use Rattle.cutter.specs.declared.Cursor.{Cursor}
 use Rattle.cutter.specs.declared.Sweep.{Sweep}
 use Rattle.cutter.proofs.Least.{above-in, above-not, leastAbove, least-most, least-append, least-rising, least-one, least-before, least-after, least-next}
-
--- a head within its bid and past it
-pub head-here : (w : List ℕ) (s j : ℕ) → j < bidCount w s → headAt w s j ≡ bidBreak w s j
-unfolding headAt
-head-here w s j h = rw (lt-ltb j (bidCount w s) h)
-
-pub head-gone : (w : List ℕ) (s j : ℕ) → bidCount w s ≤ j → headAt w s j ≡ past
-unfolding headAt
-head-gone w s j h = rw (le-ltb j (bidCount w s) h)
 
 -- breaks that rise
 rises-next : (br : ℕ → ℕ) (n : ℕ) → ((j : ℕ) → j < n → before br j < br j) → (k : ℕ) → suc k < n → br k < br (suc k)
@@ -48,54 +39,80 @@ rises-all br n h i (suc k) l m =
     ]
 
 module _ (w : List ℕ) (h : AcceptedLine w) (s : ℕ) (l : s < 5) (e : ℕ) where
+  -- where the cursor stands
+  at-here : bidStep w s (suc e) < bidCount w s → min (bidStep w s (suc e)) (bidCount w s - 1) ≡ bidStep w s (suc e)
+  at-here j = omega arith
+
+  at-last : bidCount w s ≤ bidStep w s (suc e) → min (bidStep w s (suc e)) (bidCount w s - 1) ≡ bidCount w s - 1
+  at-last j = omega arith
+
+  pub cursor-below : cursorFor w s e .at < bidCount w s
+  unfolding cursorFor cursorAt
+  cursor-below = let c = h .bids s l .count-least in omega arith
+
+  pub cursor-limit : cursorFor w s e .head ≤ quantityMost
+  unfolding cursorFor cursorAt
+  cursor-limit = let c = h .bids s l .count-least in h .bids s l .break-most (min (bidStep w s (suc e)) (bidCount w s - 1)) (omega arith)
+
+  head-in : (j : bidStep w s (suc e) < bidCount w s) → above e (cursorFor w s e .head) ≡ bidBreak w s (bidStep w s (suc e))
+  unfolding cursorFor cursorAt
+  head-in j =
+      let r = bid-first w s (suc e) .reached j in
+      rw (at-here j) (above-in e (bidBreak w s (bidStep w s (suc e))) (omega arith))
+
+  last-below : bidCount w s ≤ bidStep w s (suc e) → cursorFor w s e .head ≤ e
+  unfolding cursorFor cursorAt
+  last-below j =
+      let c = h .bids s l .count-least in
+      let p = bid-first w s (suc e) .passed (bidCount w s - 1) (omega arith) in
+      rw (at-last j) (omega arith)
+
   -- the step stays up to the head
-  step-stays : (u : ℕ) → suc e ≤ u → u ≤ cursorFor w s e .head → bidStep w s u ≡ bidStep w s (suc e)
-  unfolding bidStep cursorFor cursorAt
+  step-stays : (u : ℕ) → suc e ≤ u → u ≤ above e (cursorFor w s e .head) → bidStep w s u ≡ bidStep w s (suc e)
+  unfolding bidStep
   step-stays u a b =
-      step-is (first-stays (bid-first w s (suc e)) u a (λ j. rw (head-here w s (bidStep w s (suc e)) j) at b))
+      step-is (first-stays (bid-first w s (suc e)) u a (λ j. rw (head-in j) at b))
 
   -- what stands at the cursor is the price and the flag of each end up to the head
-  pub cursor-price : (u : ℕ) → suc e ≤ u → u ≤ cursorFor w s e .head → stepPrice w s (cursorFor w s e .at) ≡ price w s u
-  unfolding cursorFor cursorAt stepPrice
+  pub cursor-price : (u : ℕ) → suc e ≤ u → u ≤ above e (cursorFor w s e .head) → bidPrice w s (cursorFor w s e .at) ≡ price w s u
+  unfolding cursorFor cursorAt
   cursor-price u a b =
       let c = h .bids s l .count-least in
       sym (price-min w s u c ∙ ap (λ (j : ℕ). bidPrice w s (min j (bidCount w s - 1))) (step-stays u a b))
 
-  pub cursor-flag : (u : ℕ) → suc e ≤ u → u ≤ cursorFor w s e .head → headFlag (cursorFor w s e .head) ≡ flag w s u
-  unfolding cursorFor cursorAt headFlag
+  pub cursor-flag : (u : ℕ) → suc e ≤ u → u ≤ above e (cursorFor w s e .head) → bitIf (ltb (cursorFor w s e .head) u) ≡ flag w s u
+  unfolding bitIf
   cursor-flag u a b =
       let q = step-stays u a b in
       elim (decLt (bidStep w s (suc e)) (bidCount w s)) [
         | yes j ↦
-            let m = h .bids s l .break-most (bidStep w s (suc e)) j in
-            rw (head-here w s (bidStep w s (suc e)) j, flag-found w s u (omega arith), ne-eqb (bidBreak w s (bidStep w s (suc e))) past (λ z. omega arith))
-        | no g ↦ rw (head-gone w s (bidStep w s (suc e)) (omega arith), flag-none w s u (omega arith))
+            let r = bid-first w s (suc e) .reached j in
+            let z : cursorFor w s e .head ≡ bidBreak w s (bidStep w s (suc e)) = unfold cursorFor cursorAt in ap (bidBreak w s) (at-here j) in
+            let y = head-in j in
+            rw (le-ltb (cursorFor w s e .head) u (omega arith)) (sym (flag-found w s u (omega arith)))
+        | no g ↦
+            let z = last-below (omega arith) in
+            rw (lt-ltb (cursorFor w s e .head) u (omega arith)) (sym (flag-none w s u (omega arith)))
       ]
 
-  cursor-within : (u : ℕ) → bidStep w s u ≤ 11
-  cursor-within u =
-      let m = bid-first w s u .within in
-      let c = h .bids s l .count-most in
-      omega arith
-
-  -- its head is the least break above e
-  pub cursor-head : leastAbove e (bidBreaks w s) ≡ cursorFor w s e .head
-  unfolding cursorFor cursorAt bidBreaks
+  -- its break, where it is above e, is the least above e
+  pub cursor-head : leastAbove e (bidBreaks w s) ≡ above e (cursorFor w s e .head)
+  unfolding bidBreaks
   cursor-head =
       let f = bid-first w s (suc e) in
       let r = rises-all (bidBreak w s) (bidCount w s) (rises-next (bidBreak w s) (bidCount w s) (h .bids s l .rises)) in
       let m : (k : ℕ) → k < bidCount w s → bidBreak w s k ≤ past = λ k b. let c = h .bids s l .break-most k b in omega arith in
       elim (decLt (bidStep w s (suc e)) (bidCount w s)) [
         | yes j ↦
-            least-after (bidBreak w s) e (bidCount w s) (bidStep w s (suc e)) f r m (bidCount w s) j (omega arith)
-            ∙ sym (head-here w s (bidStep w s (suc e)) j)
+            least-after (bidBreak w s) e (bidCount w s) (bidStep w s (suc e)) f r m (bidCount w s) j (omega arith) ∙ sym (head-in j)
         | no g ↦
             least-before (bidBreak w s) e (bidCount w s) (bidStep w s (suc e)) f r m (bidCount w s) (omega arith)
-            ∙ sym (head-gone w s (bidStep w s (suc e)) (omega arith))
+            ∙ sym (above-not e (cursorFor w s e .head) (last-below (omega arith)))
       ]
 
-  -- past u the step is the first whose break is above u
-  after-in : (u : ℕ) → suc e ≤ u → bidStep w s (suc e) < bidCount w s → u ≤ bidBreak w s (bidStep w s (suc e)) → cond (eqb (bidBreak w s (bidStep w s (suc e))) u) (bidStep w s (suc e) + 1) (bidStep w s (suc e)) ≡ bidStep w s (suc u)
+  -- past u the cursor is the one at u
+  after-in : (u : ℕ) → suc e ≤ u → bidStep w s (suc e) < bidCount w s → u ≤ bidBreak w s (bidStep w s (suc e)) → bidStep w s (suc e) + bitIf (eqb (bidBreak w s (bidStep w s (suc e))) u) ≡ bidStep w s (suc u)
+  unfolding bitIf
   after-in u a j b =
       let f = bid-first w s (suc e) in
       let r = rises-next (bidBreak w s) (bidCount w s) (h .bids s l .rises) in
@@ -106,57 +123,43 @@ module _ (w : List ℕ) (h : AcceptedLine w) (s : ℕ) (l : s < 5) (e : ℕ) whe
       λ q. unfold bidStep in step-is (first-stays f (suc u) (omega arith) (λ z. q))
       in
       elim (decLt u (bidBreak w s (bidStep w s (suc e)))) [
-        | yes k ↦ rw (ne-eqb (bidBreak w s (bidStep w s (suc e))) u (λ q. omega arith), stays k)
+        | yes k ↦ let z = stays k in rw (ne-eqb (bidBreak w s (bidStep w s (suc e))) u (λ q. omega arith)) (omega arith)
         | no k ↦
             let q : bidBreak w s (bidStep w s (suc e)) ≡ u = omega arith in
-            rw (eq-eqb (bidBreak w s (bidStep w s (suc e))) u q, moves q, add-one)
+            let z = moves q in
+            rw (eq-eqb (bidBreak w s (bidStep w s (suc e))) u q) (omega arith)
       ]
 
-  step-moves : (u : ℕ) → suc e ≤ u → u < past → u ≤ cursorFor w s e .head → stepAfter (cursorFor w s e) u ≡ bidStep w s (suc u)
-  unfolding cursorFor cursorAt stepAfter
-  step-moves u a p b =
+  step-moves : (u : ℕ) → suc e ≤ u → u ≤ above e (cursorFor w s e .head) → stepAfter (cursorFor w s e) u (bidCount w s - 1) ≡ min (bidStep w s (suc u)) (bidCount w s - 1)
+  unfolding stepAfter cursorFor cursorAt bitIf
+  step-moves u a b =
       let f = bid-first w s (suc e) in
       elim (decLt (bidStep w s (suc e)) (bidCount w s)) [
         | yes j ↦
-            let here = head-here w s (bidStep w s (suc e)) j in
-            rw here (after-in u a j (rw here at b))
+            rw (at-here j) (ap (λ (x : ℕ). min x (bidCount w s - 1)) (after-in u a j (rw (head-in j) at b)))
         | no g ↦
             let stays : bidStep w s (suc u) ≡ bidStep w s (suc e) = unfold bidStep in step-is (first-stays f (suc u) (omega arith) (λ j. absurd (omega arith))) in
-            rw (stays, head-gone w s (bidStep w s (suc e)) (omega arith), ne-eqb past u (λ q. omega arith))
+            let z : bidBreak w s (min (bidStep w s (suc e)) (bidCount w s - 1)) ≤ e = last-below (omega arith) in
+            rw (ne-eqb (bidBreak w s (min (bidStep w s (suc e)) (bidCount w s - 1))) u (λ q. omega arith)) (omega arith)
       ]
 
-  pub cursor-moves : (u : ℕ) → suc e ≤ u → u < past → u ≤ cursorFor w s e .head → cursorAt w s (stepAfter (cursorFor w s e) u) ≡ cursorFor w s u
-  unfolding cursorFor
-  cursor-moves u a p b = ap (cursorAt w s) (step-moves u a p b)
+  pub cursor-moves : (u : ℕ) → suc e ≤ u → u ≤ above e (cursorFor w s e .head) → cursorMoved w s (cursorFor w s e) u ≡ cursorFor w s u
+  cursor-moves u a b = unfold cursorMoved in ap (cursorAt w s) (step-moves u a b) ∙ (unfold cursorFor in refl)
 
-  pub cursor-steady : (u : ℕ) → suc e ≤ u → u < past → u ≤ cursorFor w s e .head → Steady (cursorFor w s e) u
-  cursor-steady u a p b =
-      record {
-        at = unfold cursorFor cursorAt in cursor-within (suc e);
-        after = rw (step-moves u a p b) (cursor-within (suc u));
-      }
+-- each at most the number that it is above e
+pub record AtMost (u e : ℕ) (at : Sweep) (h : ℕ) : Type 0 where
+  pub hedge : u ≤ above e h
+  pub first : u ≤ above e (at .first .head)
+  pub second : u ≤ above e (at .second .head)
+  pub third : u ≤ above e (at .third .head)
+  pub fourth : u ≤ above e (at .fourth .head)
+  pub fifth : u ≤ above e (at .fifth .head)
 
-pub hedge-moves : (h e u : ℕ) → h < past → suc e ≤ u → u < past → u ≤ above e h → hedgeMoved (above e h) u ≡ above u h
-unfolding hedgeMoved
-hedge-moves h e u m a p b =
-    elim (decLt e h) [
-      | yes l ↦
-          let q = above-in e h l in
-          elim (decLt u h) [
-            | yes k ↦ rw (q, above-in u h k, ne-eqb h u (λ z. omega arith))
-            | no k ↦ let z : h ≡ u = omega arith in rw (q, above-not u h (omega arith), eq-eqb h u z)
-          ]
-      | no g ↦ rw (above-not e h (omega arith), above-not u h (omega arith), ne-eqb past u (λ z. omega arith))
-    ]
-
--- at most the least of six
-pub record AtMost (u : ℕ) (at : Sweep) : Type 0 where
-  pub hedge : u ≤ at .hedge
-  pub first : u ≤ at .first .head
-  pub second : u ≤ at .second .head
-  pub third : u ≤ at .third .head
-  pub fourth : u ≤ at .fourth .head
-  pub fifth : u ≤ at .fifth .head
+-- the least number above e among the heads and the hedge
+unfoldable pub nextAbove : Sweep → ℕ → ℕ → ℕ
+nextAbove at h e =
+    min (min (min (above e (at .first .head)) (above e (at .second .head))) (min (above e (at .third .head)) (above e (at .fourth .head))))
+    (min (above e (at .fifth .head)) (above e h))
 
 left-most : (x y : ℕ) → min x y ≤ x
 left-most x y = omega arith
@@ -164,54 +167,67 @@ left-most x y = omega arith
 right-most : (x y : ℕ) → min x y ≤ y
 right-most x y = omega arith
 
-pub at-most : (at : Sweep) → AtMost (nextEnd at) at
-unfolding nextEnd
-at-most at =
-    let ab = min (at .first .head) (at .second .head) in
-    let cd = min (at .third .head) (at .fourth .head) in
-    let eh = min (at .fifth .head) (at .hedge) in
-    let p = left-most (min ab cd) eh in
-    let q = right-most (min ab cd) eh in
-    let r = left-most ab cd in
-    let s = right-most ab cd in
+pub at-most : (at : Sweep) (h e : ℕ) → AtMost (nextAbove at h e) e at h
+unfolding nextAbove
+at-most at h e =
+    let a = above e (at .first .head) in
+    let b = above e (at .second .head) in
+    let c = above e (at .third .head) in
+    let d = above e (at .fourth .head) in
+    let f = above e (at .fifth .head) in
+    let g = above e h in
+    let p = left-most (min (min a b) (min c d)) (min f g) in
+    let q = right-most (min (min a b) (min c d)) (min f g) in
+    let r = left-most (min a b) (min c d) in
+    let s = right-most (min a b) (min c d) in
     record {
-      hedge = omega (arith, right-most (at .fifth .head) (at .hedge));
-      first = omega (arith, left-most (at .first .head) (at .second .head));
-      second = omega (arith, right-most (at .first .head) (at .second .head));
-      third = omega (arith, left-most (at .third .head) (at .fourth .head));
-      fourth = omega (arith, right-most (at .third .head) (at .fourth .head));
-      fifth = omega (arith, left-most (at .fifth .head) (at .hedge));
+      hedge = omega (arith, right-most f g);
+      first = omega (arith, left-most a b);
+      second = omega (arith, right-most a b);
+      third = omega (arith, left-most c d);
+      fourth = omega (arith, right-most c d);
+      fifth = omega (arith, left-most f g);
     }
 
-pub sweep-moves : (w : List ℕ) → AcceptedLine w → (e u : ℕ) → suc e ≤ u → u < past → u ≡ nextEnd (sweepFor w e) → sweepMoved w (sweepFor w e) u ≡ sweepFor w u
+pub sweep-moves : (w : List ℕ) → AcceptedLine w → (e u : ℕ) → suc e ≤ u → AtMost u e (sweepFor w e) (hedge w) → sweepMoved w (sweepFor w e) u ≡ sweepFor w u
 unfolding sweepFor sweepMoved
-sweep-moves w h e u a p q =
-    let m : AtMost u (sweepFor w e) = rw q (at-most (sweepFor w e)) in
-    let c = h .hedge-most in
-    let d = most-limit w h in
+sweep-moves w h e u a m =
     λ i.
     record {
-      hedge = hedge-moves (hedge w) e u (omega arith) a p (m .hedge) i;
-      first = cursor-moves w h 0 (omega arith) e u a p (m .first) i;
-      second = cursor-moves w h 1 (omega arith) e u a p (m .second) i;
-      third = cursor-moves w h 2 (omega arith) e u a p (m .third) i;
-      fourth = cursor-moves w h 3 (omega arith) e u a p (m .fourth) i;
-      fifth = cursor-moves w h 4 (omega arith) e u a p (m .fifth) i;
+      first = cursor-moves w h 0 (omega arith) e u a (m .first) i;
+      second = cursor-moves w h 1 (omega arith) e u a (m .second) i;
+      third = cursor-moves w h 2 (omega arith) e u a (m .third) i;
+      fourth = cursor-moves w h 3 (omega arith) e u a (m .fourth) i;
+      fifth = cursor-moves w h 4 (omega arith) e u a (m .fifth) i;
     }
 
-pub sweep-within : (w : List ℕ) → AcceptedLine w → (e u : ℕ) → suc e ≤ u → u < past → u ≡ nextEnd (sweepFor w e) → Within (sweepFor w e) u
+pub sweep-within : (w : List ℕ) → AcceptedLine w → (e : ℕ) → Within w (sweepFor w e)
 unfolding sweepFor
-sweep-within w h e u a p q =
-    let m : AtMost u (sweepFor w e) = rw q (at-most (sweepFor w e)) in
+sweep-within w h e =
     record {
-      first = cursor-steady w h 0 (omega arith) e u a p (m .first);
-      second = cursor-steady w h 1 (omega arith) e u a p (m .second);
-      third = cursor-steady w h 2 (omega arith) e u a p (m .third);
-      fourth = cursor-steady w h 3 (omega arith) e u a p (m .fourth);
-      fifth = cursor-steady w h 4 (omega arith) e u a p (m .fifth);
+      first = cursor-below w h 0 (omega arith) e;
+      second = cursor-below w h 1 (omega arith) e;
+      third = cursor-below w h 2 (omega arith) e;
+      fourth = cursor-below w h 3 (omega arith) e;
+      fifth = cursor-below w h 4 (omega arith) e;
     }
 
--- the least of the heads is the least end above e
+pub sweep-limited : (w : List ℕ) → AcceptedLine w → (e : ℕ) → e ≤ quantityMost → Limited (sweepFor w e) (hedge w) e
+unfolding sweepFor
+sweep-limited w h e l =
+    let c = h .hedge-most in
+    let d = most-limit w h in
+    record {
+      hedge = omega arith;
+      end = l;
+      first = cursor-limit w h 0 (omega arith) e;
+      second = cursor-limit w h 1 (omega arith) e;
+      third = cursor-limit w h 2 (omega arith) e;
+      fourth = cursor-limit w h 3 (omega arith) e;
+      fifth = cursor-limit w h 4 (omega arith) e;
+    }
+
+-- the least of the heads and the hedge above e is the least end above e
 min-orders : (a b c d e h : ℕ) → min h (min (min (min (min a b) c) d) e) ≡ min (min (min a b) (min c d)) (min e h)
 min-orders a b c d e h =
     let q : (x : ℕ) → min (min x c) d ≡ min x (min c d) = λ x. omega arith in
@@ -232,8 +248,8 @@ least-hedge : (e h : ℕ) → h ≤ past → leastAbove e (cond (eqb h 0) [] (h 
 least-hedge e zero m = unfold leastAbove in sym (above-not e 0 (omega arith))
 least-hedge e (suc h) m = rw (ne-eqb (suc h) 0 (λ q. omega arith)) (least-one e (suc h) m)
 
-pub sweep-least : (w : List ℕ) → AcceptedLine w → (e : ℕ) → nextEnd (sweepFor w e) ≡ leastAbove e (ends w)
-unfolding ends hedgePoint nextEnd sweepFor
+pub sweep-least : (w : List ℕ) → AcceptedLine w → (e : ℕ) → nextAbove (sweepFor w e) (hedge w) e ≡ leastAbove e (ends w)
+unfolding ends hedgePoint nextAbove sweepFor
 sweep-least w h e =
     let c = h .hedge-most in
     let d = most-limit w h in
@@ -257,8 +273,35 @@ end-past w h z m =
     let b = most-limit w h in
     omega arith
 
-pub sweep-next : (w : List ℕ) → AcceptedLine w → (n : ℕ) → n ≤ stepCount w → nextEnd (sweepFor w (lowerEnd w n)) ≡ getD (ends w) n past
+pub sweep-next : (w : List ℕ) → AcceptedLine w → (n : ℕ) → n ≤ stepCount w → nextAbove (sweepFor w (lowerEnd w n)) (hedge w) (lowerEnd w n) ≡ getD (ends w) n past
 unfolding lowerEnd stepCount
 sweep-next w h n l =
     sweep-least w h (getD (0 ∷ ends w) n 0)
     ∙ least-next (ends-rise w h) (λ z m. let a = end-past w h z m in omega arith) n l
+
+-- the gap to v: v is above e and within the limit, or there is none
+pub data Gap (e v g : ℕ) : Type 0 where
+  near : e < v → v ≤ quantityMost → g ≡ v - suc e → Gap e v g
+  none : v ≡ past → 2147483648 ≤ g → Gap e v g
+
+gap-of : (x e : ℕ) → x ≤ quantityMost → e ≤ quantityMost → Gap e (above e x) (gapOf x e)
+unfolding gapOf above
+gap-of x e p q =
+    elim (decLt e x) [
+      | yes k ↦ rw (lt-ltb e x k) (near k p refl)
+      | no k ↦ rw (le-ltb e x (omega arith)) (none refl (omega arith))
+    ]
+
+gap-min : {e v g x f : ℕ} → Gap e v g → Gap e x f → Gap e (min v x) (min g f)
+gap-min (near a b c) (near p q r) = near (omega arith) (omega arith) (omega arith)
+gap-min (near a b c) (none p q) = near (omega arith) (omega arith) (omega arith)
+gap-min (none a b) (near p q r) = near (omega arith) (omega arith) (omega arith)
+gap-min (none a b) (none p q) = none (omega arith) (omega arith)
+
+pub sweep-gap : (at : Sweep) (h e : ℕ) → Limited at h e → Gap e (nextAbove at h e) (nextGap at h e)
+unfolding nextAbove nextGap
+sweep-gap at h e l =
+    let of : (x : ℕ) → x ≤ quantityMost → Gap e (above e x) (gapOf x e) = λ x p. gap-of x e p (l .end) in
+    gap-min
+    (gap-min (gap-min (of _ (l .first)) (of _ (l .second))) (gap-min (of _ (l .third)) (of _ (l .fourth))))
+    (gap-min (of _ (l .fifth)) (of h (l .hedge)))

@@ -1,6 +1,7 @@
 -- What each move of the sweep gives, as its proof wants it: from the callees' results to the definition of the contract.
 use Prim.Native.Nat.{ℕ, zero, suc, _+_, _*_, _-_, _^_, _%_, _≤_, _<_, min}
 use native.Mathlib.Omega.{arith}
+use native.Mathlib.Decide.{decLt}
 use mathlib.Core.Path.{_≡_, refl, sym, _∙_, ap, subst}
 use mathlib.Core.Bool.{Bool, true, false, cond}
 use mathlib.Core.List.{List, [], _∷_}
@@ -9,99 +10,127 @@ use lib.Dec.{eqb, ltb}
 use lib.Bits.{bitOr, or-shifted-r}
 use lib.Pow.{shl-exact}
 use borrow.Author.Tests.{lt-ltb, le-ltb, eq-eqb, ne-eqb}
-use Rattle.rules.specs.Layout.{hedge, bidCount, bidBreak, bidPrice}
+use Rattle.rules.specs.Layout.{quantityMost, bidCount, bidBreak, bidPrice}
 use Rattle.rules.specs.Steps.{bidStep}
-use Rattle.laws.specs.Accepted.{AcceptedLine, AcceptedBid}
+use Rattle.rules.specs.Fold.{refuse, _orElse_}
+use Rattle.rules.specs.Refusals.{lineFault, cutFault}
+use Rattle.rules.specs.Cutting.{cutOf, cutRefused, cutAnswer}
+use Rattle.rules.specs.declared.Cut.{Cut}
+use Rattle.laws.specs.Folds.{refuse-true, refuse-false, orElse-zero, orElse-stop}
+use Rattle.laws.specs.Accepted.{AcceptedLine, AcceptedBid, accepted-line}
 use Rattle.cutter.specs.Search.{First, step-is}
-use Rattle.cutter.specs.Sweep.{Line, BidRead, Room, past, headAt, cursorAt, cursorFor, stepPrice, headFlag, stepAfter, above, hedgeMoved, sweepFor, sweepMoved, nextEnd, wordsMarked, withFlag, pricesPut}
+use Rattle.cutter.specs.Certificate.{answer-whole}
+use Rattle.cutter.specs.Sweep.{Line, BidRead, Room, bitIf, cursorAt, cursorFor, cursorMoved, stepAfter, sweepFor, sweepMoved, gapOf, nextGap}
+use Rattle.cutter.specs.Sweep.{withFlag, wordsMarked, pricesPut}
 use Rattle.cutter.specs.declared.Cursor.{Cursor}
 use Rattle.cutter.specs.declared.Sweep.{Sweep}
 use Rattle.cutter.specs.declared.Words.{Words}
 
-pub head-in : (w : List ℕ) (s j : ℕ) {n h : ℕ} → n ≡ bidCount w s → j < n → h ≡ bidBreak w s j → h ≡ headAt w s j
-unfolding headAt
-head-in w s j e l a = rw (lt-ltb j (bidCount w s) (omega arith)) a
+-- a test as a number
+pub bit-eq : (a b : ℕ) → a ≡ b → 1 ≡ bitIf (eqb a b)
+unfolding bitIf
+bit-eq a b e = rw (eq-eqb a b e)
 
-pub head-past : (w : List ℕ) (s j : ℕ) {n : ℕ} → n ≡ bidCount w s → n ≤ j → past ≡ headAt w s j
-unfolding headAt
-head-past w s j e l = rw (le-ltb j (bidCount w s) (omega arith))
+pub bit-ne : (a b : ℕ) → (a ≡ b → ⊥) → 0 ≡ bitIf (eqb a b)
+unfolding bitIf
+bit-ne a b e = rw (ne-eqb a b e)
 
-pub price-is : (w : List ℕ) (s j : ℕ) {n k p : ℕ} → n ≡ bidCount w s → k ≡ min j (n - 1) → p ≡ bidPrice w s k → p ≡ stepPrice w s j
-unfolding stepPrice
-price-is w s j e f g = g ∙ ap (bidPrice w s) (f ∙ ap (λ (m : ℕ). min j (m - 1)) e)
+pub bit-lt : (a b : ℕ) → a < b → 1 ≡ bitIf (ltb a b)
+unfolding bitIf
+bit-lt a b e = rw (lt-ltb a b e)
 
-pub flag-set : (x : ℕ) → x ≡ past → 1 ≡ headFlag x
-unfolding headFlag
-flag-set x e = rw (eq-eqb x past e)
+pub bit-le : (a b : ℕ) → b ≤ a → 0 ≡ bitIf (ltb a b)
+unfolding bitIf
+bit-le a b e = rw (le-ltb a b e)
 
-pub flag-unset : (x : ℕ) → (x ≡ past → ⊥) → 0 ≡ headFlag x
-unfolding headFlag
-flag-unset x e = rw (ne-eqb x past e)
+pub bit-most : (t : Bool) → bitIf t ≤ 1
+unfolding bitIf
+bit-most true = omega arith
+bit-most false = omega arith
 
-pub after-on : (c : Cursor) (u : ℕ) → c .head ≡ u → c .at + 1 ≡ stepAfter c u
+pub bit-one : (t : Bool) {m : ℕ} → m ≡ bitIf t → m ≤ 1
+bit-one t e = let b = bit-most t in omega arith
+
+pub bit-over : (a b : ℕ) {m : ℕ} → m ≡ bitIf (ltb a b) → m ≤ b
+bit-over a b e =
+    elim (decLt a b) [
+      | yes l ↦ let g = bit-lt a b l in omega arith
+      | no l ↦ let g = bit-le a b (omega arith) in omega arith
+    ]
+
+-- the step after an end
+pub after-is : (c : Cursor) (u last : ℕ) {m k : ℕ} → m ≡ bitIf (eqb (c .head) u) → k ≡ bitIf (ltb last (c .at + m)) → c .at ≤ last → (c .at + m) - k ≡ stepAfter c u last
 unfolding stepAfter
-after-on c u e = rw (eq-eqb (c .head) u e)
+after-is c u last {m} {k} e f h =
+    let b = bit-most (eqb (c .head) u) in
+    rw (← e)
+    (elim (decLt last (c .at + m)) [
+      | yes l ↦ let g = bit-lt last (c .at + m) l in omega arith
+      | no l ↦ let g = bit-le last (c .at + m) (omega arith) in omega arith
+    ])
 
-pub after-not : (c : Cursor) (u : ℕ) → (c .head ≡ u → ⊥) → c .at ≡ stepAfter c u
+pub after-below : (c : Cursor) (u n : ℕ) {r k : ℕ} → r ≡ stepAfter c u (n - 1) → n ≡ k → 0 < k → k ≤ 11 → r < 11
 unfolding stepAfter
-after-not c u e = rw (ne-eqb (c .head) u e)
+after-below c u n e f p q = omega arith
 
-pub cursor-is : (w : List ℕ) (s j : ℕ) {a h : ℕ} → a ≡ j → h ≡ headAt w s a → _≡_ {A = Cursor} (record { at = a; head = h }) (cursorAt w s j)
+pub cursor-is : (w : List ℕ) (s j : ℕ) {a h : ℕ} → a ≡ j → h ≡ bidBreak w s a → _≡_ {A = Cursor} (record { at = a; head = h }) (cursorAt w s j)
 unfolding cursorAt
-cursor-is w s j e f = λ i. record { at = e i; head = (f ∙ ap (headAt w s) e) i }
+cursor-is w s j e f = λ i. record { at = e i; head = (f ∙ ap (bidBreak w s) e) i }
 
-pub hedge-none : (h : ℕ) → h ≡ 0 → past ≡ above 0 h
-unfolding above
-hedge-none h e = rw (le-ltb 0 h (omega arith))
-
-pub hedge-some : (h : ℕ) → (h ≡ 0 → ⊥) → h ≡ above 0 h
-unfolding above
-hedge-some h e = rw (lt-ltb 0 h (omega arith))
-
-pub hedge-on : (h u : ℕ) → h ≡ u → past ≡ hedgeMoved h u
-unfolding hedgeMoved
-hedge-on h u e = rw (eq-eqb h u e)
-
-pub hedge-not : (h u : ℕ) → (h ≡ u → ⊥) → h ≡ hedgeMoved h u
-unfolding hedgeMoved
-hedge-not h u e = rw (ne-eqb h u e)
+pub moved-is : (w : List ℕ) (s u : ℕ) (c : Cursor) {n a h : ℕ} → n ≡ bidCount w s → a ≡ stepAfter c u (n - 1) → h ≡ bidBreak w s a → _≡_ {A = Cursor} (record { at = a; head = h }) (cursorMoved w s c u)
+unfolding cursorMoved
+moved-is w s u c e f g =
+    cursor-is w s (stepAfter c u (bidCount w s - 1)) (f ∙ ap (λ (m : ℕ). stepAfter c u (m - 1)) e) g
 
 pub bid-read : {w : List ℕ} → Line w → (s : ℕ) → s < 5 → BidRead w s
 bid-read h s l =
     let b = h .accepted .bids s l in
     record { long = h .long; schedule = l; some = b .count-least; few = b .count-most }
 
+pub price-read : {w : List ℕ} {j : ℕ} → Line w → (s : ℕ) → s < 5 → j < bidCount w s → (length w ≡ 660) × (s < 5) × (j < 11)
+price-read h s l k = let b = h .accepted .bids s l .count-most in (h .long, l, omega arith)
+
 -- before the first end a cursor stands at its bid's first break
-pub cursor-start : (w : List ℕ) → Line w → (s : ℕ) → s < 5 → cursorAt w s 0 ≡ cursorFor w s 0
+pub cursor-first : (w : List ℕ) → Line w → (s : ℕ) → s < 5 → cursorAt w s 0 ≡ cursorFor w s 0
 unfolding cursorFor bidStep
-cursor-start w h s l =
+cursor-first w h s l =
     let b = h .accepted .bids s l in
     let f : First (bidBreak w s) 1 (bidCount w s) 0 =
     record { within = omega arith; passed = λ k m. absurd (omega arith); reached = λ m. let r = b .rises 0 m in omega arith }
     in
-    ap (cursorAt w s) (sym (step-is f))
+    let e = step-is f in
+    ap (cursorAt w s) (omega arith)
 
-pub start-is : (w : List ℕ) {x h : ℕ} {a b c d e : Cursor} → Line w → x ≡ hedge w → h ≡ above 0 x → a ≡ cursorAt w 0 0 → b ≡ cursorAt w 1 0 → c ≡ cursorAt w 2 0 → d ≡ cursorAt w 3 0 → e ≡ cursorAt w 4 0 → _≡_ {A = Sweep} (record { hedge = h; first = a; second = b; third = c; fourth = d; fifth = e }) (sweepFor w 0)
+pub start-is : (w : List ℕ) {a b c d e : Cursor} → Line w → a ≡ cursorAt w 0 0 → b ≡ cursorAt w 1 0 → c ≡ cursorAt w 2 0 → d ≡ cursorAt w 3 0 → e ≡ cursorAt w 4 0 → _≡_ {A = Sweep} (record { first = a; second = b; third = c; fourth = d; fifth = e }) (sweepFor w 0)
 unfolding sweepFor
-start-is w l y x a b c d e =
+start-is w l a b c d e =
     λ i.
     record {
-      hedge = (x ∙ ap (above 0) y) i;
-      first = (a ∙ cursor-start w l 0 (omega arith)) i;
-      second = (b ∙ cursor-start w l 1 (omega arith)) i;
-      third = (c ∙ cursor-start w l 2 (omega arith)) i;
-      fourth = (d ∙ cursor-start w l 3 (omega arith)) i;
-      fifth = (e ∙ cursor-start w l 4 (omega arith)) i;
+      first = (a ∙ cursor-first w l 0 (omega arith)) i;
+      second = (b ∙ cursor-first w l 1 (omega arith)) i;
+      third = (c ∙ cursor-first w l 2 (omega arith)) i;
+      fourth = (d ∙ cursor-first w l 3 (omega arith)) i;
+      fifth = (e ∙ cursor-first w l 4 (omega arith)) i;
     }
 
-pub passed-is : (w : List ℕ) (at : Sweep) (u : ℕ) {h : ℕ} {a b c d e : Cursor} → h ≡ hedgeMoved (at .hedge) u → a ≡ cursorAt w 0 (stepAfter (at .first) u) → b ≡ cursorAt w 1 (stepAfter (at .second) u) → c ≡ cursorAt w 2 (stepAfter (at .third) u) → d ≡ cursorAt w 3 (stepAfter (at .fourth) u) → e ≡ cursorAt w 4 (stepAfter (at .fifth) u) → _≡_ {A = Sweep} (record { hedge = h; first = a; second = b; third = c; fourth = d; fifth = e }) (sweepMoved w at u)
+pub passed-is : (w : List ℕ) (at : Sweep) (u : ℕ) {a b c d e : Cursor} → a ≡ cursorMoved w 0 (at .first) u → b ≡ cursorMoved w 1 (at .second) u → c ≡ cursorMoved w 2 (at .third) u → d ≡ cursorMoved w 3 (at .fourth) u → e ≡ cursorMoved w 4 (at .fifth) u → _≡_ {A = Sweep} (record { first = a; second = b; third = c; fourth = d; fifth = e }) (sweepMoved w at u)
 unfolding sweepMoved
-passed-is w at u x a b c d e = λ i. record { hedge = x i; first = a i; second = b i; third = c i; fourth = d i; fifth = e i }
+passed-is w at u a b c d e = λ i. record { first = a i; second = b i; third = c i; fourth = d i; fifth = e i }
 
-pub next-is : (at : Sweep) {p q l m r : ℕ} → p ≡ min (at .first .head) (at .second .head) → q ≡ min (at .third .head) (at .fourth .head) → l ≡ min p q → m ≡ min (at .fifth .head) (at .hedge) → r ≡ min l m → r ≡ nextEnd at
-unfolding nextEnd
-next-is at a b c d e = cc
+-- gaps
+pub gap-is : (x e b r : ℕ) → x ≤ quantityMost → e ≤ quantityMost → b ≡ e + 1 → r < 4294967296 → (r + b) % 4294967296 ≡ x → r ≡ gapOf x e
+unfolding gapOf
+gap-is x e b r p q f l g =
+    elim (decLt e x) [
+      | yes k ↦ rw (lt-ltb e x k) (omega arith)
+      | no k ↦ rw (le-ltb e x (omega arith)) (omega arith)
+    ]
 
+pub next-is : (at : Sweep) (h x : ℕ) {a b c d e f p q l m r : ℕ} → a ≡ gapOf (at .first .head) x → b ≡ gapOf (at .second .head) x → p ≡ min a b → c ≡ gapOf (at .third .head) x → d ≡ gapOf (at .fourth .head) x → q ≡ min c d → l ≡ min p q → e ≡ gapOf (at .fifth .head) x → f ≡ gapOf h x → m ≡ min e f → r ≡ min l m → r ≡ nextGap at h x
+unfolding nextGap
+next-is at h x a b p c d q l e f m r = cc
+
+-- flags
 pub flag-put : (x f n : ℕ) → Room x f n → bitOr x ((f * 2 ^ n) % 2 ^ 64) ≡ withFlag x f n
 flag-put x f n r =
     let a = r .flag in
@@ -109,9 +138,13 @@ flag-put x f n r =
     let l : f < 2 ^ 1 = omega arith in
     rw (shl-exact 1 n 64 l (omega arith)) (or-shifted-r f n x (r .word))
 
-pub marked-is : (x : Words) (at : Sweep) (n : ℕ) {a b c d e f g h i j : ℕ} → f ≡ headFlag (at .first .head) → a ≡ withFlag (x .first) f n → g ≡ headFlag (at .second .head) → b ≡ withFlag (x .second) g n → h ≡ headFlag (at .third .head) → c ≡ withFlag (x .third) h n → i ≡ headFlag (at .fourth .head) → d ≡ withFlag (x .fourth) i n → j ≡ headFlag (at .fifth .head) → e ≡ withFlag (x .fifth) j n → _≡_ {A = Words} (record { first = a; second = b; third = c; fourth = d; fifth = e }) (wordsMarked x at n)
+-- a flag that was read has the room of the one that it equals
+pub room-of : {x f g n : ℕ} → f ≡ g → Room x g n → Room x f n
+room-of {x} {f} {g} {n} e r = subst (λ (y : ℕ). Room x y n) (sym e) r
+
+pub marked-is : (x : Words) (at : Sweep) (u n : ℕ) {a b c d e f g h i j : ℕ} → f ≡ bitIf (ltb (at .first .head) u) → a ≡ withFlag (x .first) f n → g ≡ bitIf (ltb (at .second .head) u) → b ≡ withFlag (x .second) g n → h ≡ bitIf (ltb (at .third .head) u) → c ≡ withFlag (x .third) h n → i ≡ bitIf (ltb (at .fourth .head) u) → d ≡ withFlag (x .fourth) i n → j ≡ bitIf (ltb (at .fifth .head) u) → e ≡ withFlag (x .fifth) j n → _≡_ {A = Words} (record { first = a; second = b; third = c; fourth = d; fifth = e }) (wordsMarked x at u n)
 unfolding wordsMarked
-marked-is x at n f a g b h c i d j e =
+marked-is x at u n f a g b h c i d j e =
     λ k.
     record {
       first = (a ∙ ap (λ (y : ℕ). withFlag (x .first) y n) f) k;
@@ -121,10 +154,33 @@ marked-is x at n f a g b h c i d j e =
       fifth = (e ∙ ap (λ (y : ℕ). withFlag (x .fifth) y n) j) k;
     }
 
--- a flag that was read has the room of the one that it equals
-pub room-of : {x f g n : ℕ} → f ≡ g → Room x g n → Room x f n
-room-of {x} {f} {g} {n} e r = subst (λ (y : ℕ). Room x y n) (sym e) r
-
-pub put-is : (w l : List ℕ) (at : Sweep) (n : ℕ) {a b c d e : ℕ} → a ≡ stepPrice w 0 (at .first .at) → b ≡ stepPrice w 1 (at .second .at) → c ≡ stepPrice w 2 (at .third .at) → d ≡ stepPrice w 3 (at .fourth .at) → e ≡ stepPrice w 4 (at .fifth .at) → set (set (set (set (set l n a) (56 + n) b) (112 + n) c) (168 + n) d) (224 + n) e ≡ pricesPut w l at n
+-- prices
+pub put-is : (w l : List ℕ) (at : Sweep) (n : ℕ) {a b c d e : ℕ} → a ≡ bidPrice w 0 (at .first .at) → b ≡ bidPrice w 1 (at .second .at) → c ≡ bidPrice w 2 (at .third .at) → d ≡ bidPrice w 3 (at .fourth .at) → e ≡ bidPrice w 4 (at .fifth .at) → set (set (set (set (set l n a) (56 + n) b) (112 + n) c) (168 + n) d) (224 + n) e ≡ pricesPut w l at n
 unfolding pricesPut
 put-is w l at n a b c d e = λ i. set (set (set (set (set l n (a i)) (56 + n) (b i)) (112 + n) (c i)) (168 + n) (d i)) (224 + n) (e i)
+
+-- the entry's three answers
+fault-short : (w : List ℕ) → (length w ≡ 660 → ⊥) → cutFault w ≡ 18
+unfolding cutFault
+fault-short w h = rw (ne-eqb (length w) 660 h, refuse-true 18) (orElse-stop 18 (lineFault w) (omega arith))
+
+pub cut-short : (w : List ℕ) {r : Cut} → (length w ≡ 660 → ⊥) → r ≡ cutRefused 18 → r ≡ cutAnswer w
+unfolding cutAnswer
+cut-short w h e =
+    rw (fault-short w h) e
+
+pub fault-line : (w : List ℕ) → length w ≡ 660 → cutFault w ≡ lineFault w
+unfolding cutFault
+fault-line w h = rw (eq-eqb (length w) 660 h, refuse-false) (orElse-zero (lineFault w))
+
+pub cut-refused : (w : List ℕ) {n : ℕ} {r : Cut} → length w ≡ 660 → n ≡ lineFault w → (n ≡ 0 → ⊥) → r ≡ cutRefused n → r ≡ cutAnswer w
+unfolding cutAnswer
+cut-refused w {n} h e z p =
+    let f = fault-line w h in
+    rw (f, ← e, ne-eqb n 0 z) p
+
+pub cut-line : (w : List ℕ) {n : ℕ} → length w ≡ 660 → n ≡ lineFault w → n ≡ 0 → Line w
+cut-line w h e z = record { long = h; accepted = accepted-line w (sym e ∙ z) }
+
+pub cut-whole : (w : List ℕ) {n : ℕ} {r : Cut} → length w ≡ 660 → n ≡ lineFault w → n ≡ 0 → r ≡ cutOf w → r ≡ cutAnswer w
+cut-whole w h e z p = p ∙ sym (answer-whole w (fault-line w h ∙ sym e ∙ z))

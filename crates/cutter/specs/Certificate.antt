@@ -182,3 +182,13 @@ certified w r e n =
     let f = fault-none w (sym (ap (λ (c : Cut). c .number) e) ∙ n) in
     let h = accepted-line w (orElse-both _ _ f .right) in
     subst (λ (c : Cut). CutterCertificate w c) (sym (e ∙ answer-whole w f)) (certified-whole w h)
+
+-- an answer has at most 56 steps, a refused one too
+count-by : (w : List ℕ) (t : Bool) → eqb (cutFault w) 0 ≡ t → cond t (cutOf w) (cutRefused (cutFault w)) .count ≤ 56
+unfolding cutOf cutRefused cutFault
+count-by w true e = count-most w (accepted-line w (orElse-both _ _ (eqb-true (cutFault w) 0 e) .right))
+count-by w false e = omega arith
+
+pub answer-count : (w : List ℕ) (r : Cut) → r ≡ cutAnswer w → r .count ≤ 56
+unfolding cutAnswer
+answer-count w r e = rw e (count-by w (eqb (cutFault w) 0) refl)

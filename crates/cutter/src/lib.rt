@@ -1,31 +1,34 @@
 // The cutter: one line's bytes to its steps' ends, prices and missing-price flags (document 01, "Steps and prices").
 //
-// Five cursors, one for each schedule's bid, stand at the first break above the last end. The least of their breaks and of the hedge
-// is the next end, and what a cursor stands at is the step's price and flag in its schedule. No cursor moves back.
+// Five cursors, one for each schedule's bid, stand at the first break above the last end, or at the bid's last where there is none.
+// The least of their breaks and of the hedge that is above the last end is the next end, and where a cursor stands gives the step's
+// price and flag in its schedule. No cursor moves back, and nothing in a step is decided by a branch.
 use bytes_le::word_at;
+use line::line_number;
 use rules::Cut;
+use std::num::wrapping_sub_u32;
 ghost use mathlib.Core.Path.{_≡_};
 ghost use Prim.Native.Nat.{_+_, _*_, _-_, _≤_, _<_, min};
 ghost use lib.ListN.{length};
+ghost use lib.Dec.{eqb, ltb};
 ghost use Rattle.rules.specs.Layout.{bidCount, bidBreak, bidPrice};
-ghost use Rattle.rules.specs.Cutting.{cutOf};
-ghost use Rattle.cutter.specs.Sweep.{Line, BidRead, Steady, Within, Room, Markable, headAt, cursorAt, stepPrice, headFlag, stepAfter, above, hedgeMoved};
-ghost use Rattle.cutter.specs.Sweep.{sweepFor, sweepMoved, nextEnd, withFlag, wordsMarked, pricesPut};
+ghost use Rattle.rules.specs.Cutting.{cutOf, cutRefused, cutAnswer};
+ghost use Rattle.cutter.specs.Sweep.{Line, BidRead, Within, Limited, Room, Markable, cursorAt, cursorMoved, bitIf, stepAfter, gapOf, nextGap};
+ghost use Rattle.cutter.specs.Sweep.{sweepFor, sweepMoved, withFlag, wordsMarked, pricesPut};
 
-// Above every break and hedge.
-const PAST: u32 = 4294967295;
+// A gap that no break above an end has.
+const FAR: u32 = 2147483648;
 
 // One bid's place in the sweep.
 pub struct Cursor {
-    // the bid step, or the bid's count past its last
+    // the bid step
     pub at: usize,
-    // its break, or PAST
+    // its break
     pub head: u32,
 }
 
-// The hedge while it is above the last end, else PAST; the five cursors.
+// The place of each schedule's bid.
 pub struct Sweep {
-    pub hedge: u32,
     pub first: Cursor,
     pub second: Cursor,
     pub third: Cursor,
@@ -50,80 +53,58 @@ fn bid_count(line: &[u8], s: usize) -> usize
 }
 
 fn bid_break(line: &[u8], s: usize, j: usize) -> u32
-    requires { ⌜ (length (now line) ≡ 660) × (s < 5) × (j < 12) ⌝ }
+    requires { ⌜ (length (now line) ≡ 660) × (s < 5) × (j < 11) ⌝ }
     ensures { λ r. ⌜ r ≡ bidBreak (now (line .entry)) s j ⌝ }
 {
     word_at(line, 4 * (5 + 23 * s + 1 + j))
 }
 
+// The price of a step in schedule s while its cursor stands at bid step j, read from the line's bytes.
 fn bid_price(line: &[u8], s: usize, j: usize) -> u32
-    requires { ⌜ (length (now line) ≡ 660) × (s < 5) × (j < 12) ⌝ }
+    requires { ⌜ (length (now line) ≡ 660) × (s < 5) × (j < 11) ⌝ }
     ensures { λ r. ⌜ r ≡ bidPrice (now (line .entry)) s j ⌝ }
 {
     word_at(line, 4 * (5 + 23 * s + 12 + j))
 }
 
-// The break of step j of the bid of schedule s, or PAST. The word is read in either case, so that nothing has to be foreseen.
-fn head_at(line: &[u8], s: usize, j: usize) -> u32
-    requires { ⌜ BidRead (now line) s × (j ≤ 11) ⌝ }
-    ensures { λ r. ⌜ r ≡ headAt (now (line .entry)) s j ⌝ }
+// 1 where a is b, else 0.
+fn same(a: u32, b: u32) -> usize
+    ensures { λ r. ⌜ r ≡ bitIf (eqb a b) ⌝ }
 {
-    let head = bid_break(line, s, j);
-    if j < bid_count(line, s) {
-        return head;
-    }
-    PAST
-}
-
-// The bid step whose price stands for step j: the last where j is past it.
-fn priced_step(j: usize, count: usize) -> usize
-    requires { ⌜ 0 < count ⌝ }
-    ensures { λ r. ⌜ r ≡ min j (count - 1) ⌝ }
-{
-    if j < count {
-        return j;
-    }
-    count - 1
-}
-
-// The price of step j of the bid of schedule s, or its last, read from the line's bytes.
-fn price_at(line: &[u8], s: usize, j: usize) -> u32
-    requires { ⌜ BidRead (now line) s ⌝ }
-    ensures { λ r. ⌜ r ≡ stepPrice (now (line .entry)) s j ⌝ }
-{
-    bid_price(line, s, priced_step(j, bid_count(line, s)))
-}
-
-// 1 past a bid's last step, else 0.
-fn flag_of(head: u32) -> u64
-    ensures { λ r. ⌜ r ≡ headFlag head ⌝ }
-{
-    if head == PAST {
+    if a == b {
         return 1;
     }
     0
 }
 
-// The bid step after the end u: the next where the cursor stood at u.
-fn step_after(c: Cursor, u: u32) -> usize
-    requires { ⌜ c .at ≤ 11 ⌝ }
-    ensures { λ r. ⌜ r ≡ stepAfter c u ⌝ }
+// 1 where a is below b, else 0.
+fn below(a: usize, b: usize) -> usize
+    ensures { λ r. ⌜ r ≡ bitIf (ltb a b) ⌝ }
 {
-    if c.head == u {
-        return c.at + 1;
+    if a < b {
+        return 1;
     }
-    c.at
+    0
+}
+
+// The bid step after the end u: the next where the cursor stood at u, but no step past the last.
+fn step_after(c: Cursor, u: u32, last: usize) -> usize
+    requires { ⌜ (c .at ≤ last) × (last ≤ 10) ⌝ }
+    ensures { λ r. ⌜ r ≡ stepAfter c u last ⌝ }
+{
+    let next = c.at + same(c.head, u);
+    next - below(last, next)
 }
 
 // The cursor after the end u.
 fn moved(line: &[u8], s: usize, c: Cursor, u: u32) -> Cursor
-    requires { ⌜ BidRead (now line) s × Steady c u ⌝ }
-    ensures { λ r. ⌜ r ≡ cursorAt (now (line .entry)) s (stepAfter c u) ⌝ }
+    requires { ⌜ BidRead (now line) s × (c .at < bidCount (now line) s) ⌝ }
+    ensures { λ r. ⌜ r ≡ cursorMoved (now (line .entry)) s c u ⌝ }
 {
-    let at = step_after(c, u);
+    let at = step_after(c, u, bid_count(line, s) - 1);
     Cursor {
         at,
-        head: head_at(line, s, at),
+        head: bid_break(line, s, at),
     }
 }
 
@@ -134,28 +115,8 @@ fn cursor_start(line: &[u8], s: usize) -> Cursor
 {
     Cursor {
         at: 0,
-        head: head_at(line, s, 0),
+        head: bid_break(line, s, 0),
     }
-}
-
-// The hedge's place before the first end.
-fn hedge_start(hedge: u32) -> u32
-    ensures { λ r. ⌜ r ≡ above 0 hedge ⌝ }
-{
-    if hedge == 0 {
-        return PAST;
-    }
-    hedge
-}
-
-// The hedge's place after the end u.
-fn hedge_moved(hedge: u32, u: u32) -> u32
-    ensures { λ r. ⌜ r ≡ hedgeMoved hedge u ⌝ }
-{
-    if hedge == u {
-        return PAST;
-    }
-    hedge
 }
 
 // Before the first end.
@@ -164,7 +125,6 @@ fn start(line: &[u8]) -> Sweep
     ensures { λ r. ⌜ r ≡ sweepFor (now (line .entry)) 0 ⌝ }
 {
     Sweep {
-        hedge: hedge_start(word_at(line, 16)),
         first: cursor_start(line, 0),
         second: cursor_start(line, 1),
         third: cursor_start(line, 2),
@@ -175,11 +135,10 @@ fn start(line: &[u8]) -> Sweep
 
 // After the end u.
 fn passed(line: &[u8], at: Sweep, u: u32) -> Sweep
-    requires { ⌜ Line (now line) × Within at u ⌝ }
+    requires { ⌜ Line (now line) × Within (now line) at ⌝ }
     ensures { λ r. ⌜ r ≡ sweepMoved (now (line .entry)) at u ⌝ }
 {
     Sweep {
-        hedge: hedge_moved(at.hedge, u),
         first: moved(line, 0, at.first, u),
         second: moved(line, 1, at.second, u),
         third: moved(line, 2, at.third, u),
@@ -197,15 +156,34 @@ fn lesser(a: u32, b: u32) -> u32
     b
 }
 
-// The next end, or PAST.
-fn next_end(at: Sweep) -> u32
-    ensures { λ r. ⌜ r ≡ nextEnd at ⌝ }
+// How far x is above e, from 0; FAR or more where it is not.
+fn gap(x: u32, e: u32) -> u32
+    requires { ⌜ (x ≤ 200000000) × (e ≤ 200000000) ⌝ }
+    ensures { λ r. ⌜ r ≡ gapOf x e ⌝ }
+{
+    wrapping_sub_u32(x, e + 1)
+}
+
+// The least gap to the next end after e, over the five cursors and the hedge.
+fn next_gap(at: Sweep, hedge: u32, e: u32) -> u32
+    requires { ⌜ Limited at hedge e ⌝ }
+    ensures { λ r. ⌜ r ≡ nextGap at hedge e ⌝ }
 {
     let low = lesser(
-        lesser(at.first.head, at.second.head),
-        lesser(at.third.head, at.fourth.head),
+        lesser(gap(at.first.head, e), gap(at.second.head, e)),
+        lesser(gap(at.third.head, e), gap(at.fourth.head, e)),
     );
-    lesser(low, lesser(at.fifth.head, at.hedge))
+    lesser(low, lesser(gap(at.fifth.head, e), gap(hedge, e)))
+}
+
+// The flag of a step that ends at u while the cursor stands at a break: 1 where that is below u.
+fn flag_of(head: u32, u: u32) -> u64
+    ensures { λ r. ⌜ r ≡ bitIf (ltb head u) ⌝ }
+{
+    if head < u {
+        return 1;
+    }
+    0
 }
 
 // A word of flags with the flag of step n.
@@ -216,30 +194,30 @@ fn with_flag(word: u64, flag: u64, n: usize) -> u64
     word | (flag << n)
 }
 
-// The five words with the flags of step n.
-fn marked(words: Words, at: Sweep, n: usize) -> Words
-    requires { ⌜ Markable words at n ⌝ }
-    ensures { λ r. ⌜ r ≡ wordsMarked words at n ⌝ }
+// The five words with the flags of step n, which ends at u.
+fn marked(words: Words, at: Sweep, u: u32, n: usize) -> Words
+    requires { ⌜ Markable words at u n ⌝ }
+    ensures { λ r. ⌜ r ≡ wordsMarked words at u n ⌝ }
 {
     Words {
-        first: with_flag(words.first, flag_of(at.first.head), n),
-        second: with_flag(words.second, flag_of(at.second.head), n),
-        third: with_flag(words.third, flag_of(at.third.head), n),
-        fourth: with_flag(words.fourth, flag_of(at.fourth.head), n),
-        fifth: with_flag(words.fifth, flag_of(at.fifth.head), n),
+        first: with_flag(words.first, flag_of(at.first.head, u), n),
+        second: with_flag(words.second, flag_of(at.second.head, u), n),
+        third: with_flag(words.third, flag_of(at.third.head, u), n),
+        fourth: with_flag(words.fourth, flag_of(at.fourth.head, u), n),
+        fifth: with_flag(words.fifth, flag_of(at.fifth.head, u), n),
     }
 }
 
 // The prices of step n, into each schedule's row.
 fn put_prices(line: &[u8], prices: &mut [u32; 280], at: Sweep, n: usize)
-    requires { ⌜ Line (now line) × (n < 56) ⌝ }
+    requires { ⌜ Line (now line) × Within (now line) at × (n < 56) ⌝ }
     ensures { λ _. ⌜ now (prices .exit) ≡ pricesPut (now (line .entry)) (now (prices .entry)) at n ⌝ }
 {
-    prices[n] = price_at(line, 0, at.first.at);
-    prices[56 + n] = price_at(line, 1, at.second.at);
-    prices[112 + n] = price_at(line, 2, at.third.at);
-    prices[168 + n] = price_at(line, 3, at.fourth.at);
-    prices[224 + n] = price_at(line, 4, at.fifth.at);
+    prices[n] = bid_price(line, 0, at.first.at);
+    prices[56 + n] = bid_price(line, 1, at.second.at);
+    prices[112 + n] = bid_price(line, 2, at.third.at);
+    prices[168 + n] = bid_price(line, 3, at.fourth.at);
+    prices[224 + n] = bid_price(line, 4, at.fifth.at);
 }
 
 // The steps of an accepted line.
@@ -247,6 +225,7 @@ pub fn steps(line: &[u8]) -> Cut
     requires { ⌜ Line (now line) ⌝ }
     ensures { λ r. ⌜ r ≡ cutOf (now (line .entry)) ⌝ }
 {
+    let hedge = word_at(line, 16);
     let mut ends = [0u32; 56];
     let mut prices = [0u32; 280];
     let mut words = Words {
@@ -257,14 +236,16 @@ pub fn steps(line: &[u8]) -> Cut
         fifth: 0,
     };
     let mut at = start(line);
-    let mut u = next_end(at);
+    let mut end: u32 = 0;
+    let mut far = next_gap(at, hedge, end);
     let mut n: usize = 0;
-    while u != PAST {
-        ends[n] = u;
+    while far < FAR {
+        end = end + 1 + far;
+        ends[n] = end;
         put_prices(line, &mut prices, at, n);
-        words = marked(words, at, n);
-        at = passed(line, at, u);
-        u = next_end(at);
+        words = marked(words, at, end, n);
+        at = passed(line, at, end);
+        far = next_gap(at, hedge, end);
         n += 1;
     }
     Cut {
@@ -287,4 +268,32 @@ pub fn steps(line: &[u8]) -> Cut
             u64::count_ones(words.fifth),
         ],
     }
+}
+
+// A refused line's answer: the number and zeros.
+fn refused(number: u32) -> Cut
+    ensures { λ r. ⌜ r ≡ cutRefused number ⌝ }
+{
+    Cut {
+        number,
+        count: 0,
+        ends: [0u32; 56],
+        prices: [0u32; 280],
+        flags: [0u64; 5],
+        missing: [0u32; 5],
+    }
+}
+
+// The cutter (document 01, "Steps and prices"), for any bytes.
+pub fn cut(line: &[u8]) -> Cut
+    ensures { λ r. ⌜ r ≡ cutAnswer (now (line .entry)) ⌝ }
+{
+    if line.len() != 660 {
+        return refused(18);
+    }
+    let number = line_number(line);
+    if number != 0 {
+        return refused(number);
+    }
+    steps(line)
 }

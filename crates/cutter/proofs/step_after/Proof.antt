@@ -1,22 +1,32 @@
 use native.Mathlib.Omega.{arith}
 use borrow.Author.Needs.{needs}
-use Rattle.cutter.proofs.Moves.{after-on, after-not}
+use Rattle.cutter.proofs.Moves.{bit-one, bit-over, after-is}
 use Rattle.cutter.proofs.step_after.Statement.{statement}
 use Rattle.cutter.proofs.step_after.Tie as tie
 use Rattle.cutter.proofs.step_after.Reads as reads
 use Rattle.cutter.proofs.step_after.Lts as lts
+use Rattle.cutter.proofs.below.Reads as below-reads
+use Rattle.cutter.proofs.same.Reads as same-reads
 
--- src/lib.rt:113:16
-add-result : tie.Need-add-result
-add-result c = search needs
+-- src/lib.rt:96:23
+same-requires : tie.Need-same-requires
+same-requires c κs = search needs
 
--- src/lib.rt:113:9
+-- src/lib.rt:96:16
+add-next : tie.Need-add-next
+add-next c = omega (arith, bit-one _ (c .before .same .ensures))
+
+-- src/lib.rt:97:12
+below-requires : tie.Need-below-requires
+below-requires c κs = search needs
+
+-- src/lib.rt:97:5
+sub-result : tie.Need-sub-result
+sub-result c = bit-over _ _ (c .below .ensures)
+
+-- src/lib.rt:92:1
 returns : tie.Need-returns
-returns c = after-on _ _ (c .before .if1 .taken)
-
--- src/lib.rt:108:1
-returns-2 : tie.Need-returns-2
-returns-2 c = after-not _ _ (c .if1 .left)
+returns c = after-is _ _ _ (c .before .before .same .ensures) (c .below .ensures) (c .before .before .before .pre .0)
 
 pub step-after-spec : {M : Type 1} → statement M
-step-after-spec = tie.close (tie.spec add-result returns returns-2)
+step-after-spec = tie.close (tie.spec same-requires add-next below-requires sub-result returns)

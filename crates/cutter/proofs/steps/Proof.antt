@@ -3,78 +3,91 @@ use borrow.Author.Needs.{needs}
 use Prim.Native.Nat.{_-_}
 use Rattle.rules.specs.Steps.{stepCount}
 use Rattle.cutter.specs.Ends.{count-most}
-use Rattle.cutter.proofs.Swept.{Swept, swept-none, below, room, markable, at-within, swept-more, swept-all}
+use Rattle.cutter.proofs.Swept.{Swept, limited-none, swept-none, below-count, room, end-limit, markable, at-within, limited, swept-more, swept-all}
 use Rattle.cutter.proofs.steps.Statement.{statement}
 use Rattle.cutter.proofs.steps.Tie as tie
 use Rattle.cutter.proofs.steps.Reads as reads
 use Rattle.cutter.proofs.steps.Lts as lts
+use Rattle.bytes_le.proofs.word_at.Reads as word-at-reads
 use Rattle.cutter.proofs.marked.Reads as marked-reads
-use Rattle.cutter.proofs.next_end.Reads as next-end-reads
+use Rattle.cutter.proofs.next_gap.Reads as next-gap-reads
 use Rattle.cutter.proofs.passed.Reads as passed-reads
 use Rattle.cutter.proofs.put_prices.Reads as put-prices-reads
 use Rattle.cutter.proofs.start.Reads as start-reads
 
 abbrev Inv-loop : tie.InvT-loop
-Inv-loop line ends₀ prices₀ words₀ at₀ u₀ n₀ ends prices words at u n = Swept line n at u ends prices words
+Inv-loop line hedge ends₀ prices₀ words₀ at₀ end₀ far₀ n₀ ends prices words at end far n = Swept line n at end far ends prices words
 
 abbrev μ-loop : tie.MeasureT-loop
-μ-loop line ends₀ prices₀ words₀ at₀ u₀ n₀ ends prices words at u n = stepCount line - n
-
--- src/lib.rt:223:9
-start-requires : tie.Need-start-requires Inv-loop μ-loop
-start-requires c κs = c .before .pre
-
--- src/lib.rt:224:9
-next-end-requires : tie.Need-next-end-requires Inv-loop μ-loop
-next-end-requires c κs = search needs
-
--- src/lib.rt:226:5
-loop-holds : tie.Need-loop-holds Inv-loop μ-loop
-loop-holds c = swept-none _ _ _ (c .before .before .before .pre) (c .before .start .ensures) (c .next-end .ensures)
-
--- src/lib.rt:227:9
-mul-ends : tie.Need-mul-ends Inv-loop μ-loop
-mul-ends c = omega (arith, room (c .before .before .before .before .before .pre) (c .before .loop .inv) (c .loop-test .taken))
-
--- src/lib.rt:227:9
-array-write-ends : tie.Need-array-write-ends Inv-loop μ-loop
-array-write-ends c = omega (arith, room (c .before .before .before .before .before .pre) (c .before .loop .inv) (c .loop-test .taken))
-
--- src/lib.rt:228:9
-put-prices-requires : tie.Need-put-prices-requires Inv-loop μ-loop
-put-prices-requires c κs = ((c .before .before .before .before .before .before .pre), room (c .before .before .before .before .before .before .pre) (c .before .before .loop .inv) (c .before .loop-test .taken))
+μ-loop line hedge ends₀ prices₀ words₀ at₀ end₀ far₀ n₀ ends prices words at end far n = stepCount line - n
 
 -- src/lib.rt:229:9
+word-at-requires : tie.Need-word-at-requires Inv-loop μ-loop
+word-at-requires c κs = omega (arith, c .before .pre .long)
+
+-- src/lib.rt:239:9
+start-requires : tie.Need-start-requires Inv-loop μ-loop
+start-requires c κs = c .before .before .pre
+
+-- src/lib.rt:241:9
+next-gap-requires : tie.Need-next-gap-requires Inv-loop μ-loop
+next-gap-requires c κs = limited-none (c .before .before .before .pre) (c .before .word-at .ensures) (c .start .ensures)
+
+-- src/lib.rt:243:5
+loop-holds : tie.Need-loop-holds Inv-loop μ-loop
+loop-holds c = swept-none _ _ _ _ (c .before .before .word-at .ensures) (c .before .start .ensures) (c .next-gap .ensures)
+
+-- src/lib.rt:244:15
+add-end : tie.Need-add-end Inv-loop μ-loop
+add-end c = omega (arith, end-limit (c .before .before .before .before .before .before .pre) (c .before .loop .inv) (c .loop-test .taken))
+
+-- src/lib.rt:244:15
+add-end-2 : tie.Need-add-end-2 Inv-loop μ-loop
+add-end-2 c = omega (arith, end-limit (c .before .before .before .before .before .before .pre) (c .before .loop .inv) (c .loop-test .taken))
+
+-- src/lib.rt:245:9
+mul-ends : tie.Need-mul-ends Inv-loop μ-loop
+mul-ends c = omega (arith, room (c .before .before .before .before .before .before .pre) (c .before .loop .inv) (c .loop-test .taken))
+
+-- src/lib.rt:245:9
+array-write-ends : tie.Need-array-write-ends Inv-loop μ-loop
+array-write-ends c = omega (arith, room (c .before .before .before .before .before .before .pre) (c .before .loop .inv) (c .loop-test .taken))
+
+-- src/lib.rt:246:9
+put-prices-requires : tie.Need-put-prices-requires Inv-loop μ-loop
+put-prices-requires c κs = (c .before .before .before .before .before .before .before .pre, at-within (c .before .before .before .before .before .before .before .pre) (c .before .before .loop .inv) (c .before .loop-test .taken), room (c .before .before .before .before .before .before .before .pre) (c .before .before .loop .inv) (c .before .loop-test .taken))
+
+-- src/lib.rt:247:9
 marked-requires : tie.Need-marked-requires Inv-loop μ-loop
-marked-requires c κs = markable (c .before .before .before .before .before .before .before .pre) (c .before .before .before .loop .inv) (c .before .before .loop-test .taken)
+marked-requires c κs = markable (c .before .before .before .before .before .before .before .before .pre) (c .before .before .before .loop .inv) (c .before .before .loop-test .taken)
 
--- src/lib.rt:230:9
+-- src/lib.rt:248:9
 passed-requires : tie.Need-passed-requires Inv-loop μ-loop
-passed-requires c κs = (c .before .before .before .before .before .before .before .before .pre, at-within (c .before .before .before .before .before .before .before .before .pre) (c .before .before .before .before .loop .inv) (c .before .before .before .loop-test .taken))
+passed-requires c κs = (c .before .before .before .before .before .before .before .before .before .pre, at-within (c .before .before .before .before .before .before .before .before .before .pre) (c .before .before .before .before .loop .inv) (c .before .before .before .loop-test .taken))
 
--- src/lib.rt:231:9
-next-end-requires-2 : tie.Need-next-end-requires-2 Inv-loop μ-loop
-next-end-requires-2 c κs = search needs
+-- src/lib.rt:249:9
+next-gap-requires-2 : tie.Need-next-gap-requires-2 Inv-loop μ-loop
+next-gap-requires-2 c κs = limited (c .before .before .before .before .before .before .before .before .before .before .pre) (c .before .before .before .before .before .loop .inv) (c .before .before .before .before .loop-test .taken) (c .before .before .before .before .before .before .before .before .word-at .ensures) (c .passed .ensures)
 
--- src/lib.rt:232:9
+-- src/lib.rt:250:9
 add-n : tie.Need-add-n Inv-loop μ-loop
-add-n c = omega (arith, room (c .before .before .before .before .before .before .before .before .before .before .pre) (c .before .before .before .before .before .before .loop .inv) (c .before .before .before .before .before .loop-test .taken))
+add-n c = omega (arith, room (c .before .before .before .before .before .before .before .before .before .before .before .pre) (c .before .before .before .before .before .before .loop .inv) (c .before .before .before .before .before .loop-test .taken))
 
--- src/lib.rt:226:5
+-- src/lib.rt:243:5
 loop-less : tie.Need-loop-less Inv-loop μ-loop
-loop-less c = omega (arith, below (c .before .before .before .before .before .before .before .before .before .before .pre) (c .before .before .before .before .before .before .loop .inv) (c .before .before .before .before .before .loop-test .taken))
+loop-less c = omega (arith, below-count (c .before .before .before .before .before .before .before .before .before .before .before .pre) (c .before .before .before .before .before .before .loop .inv) (c .before .before .before .before .before .loop-test .taken))
 
--- src/lib.rt:226:5
+-- src/lib.rt:243:5
 loop-again : tie.Need-loop-again Inv-loop μ-loop
-loop-again c = swept-more (c .before .before .before .before .before .before .before .before .before .before .pre) (c .before .before .before .before .before .before .loop .inv) (c .before .before .before .before .before .loop-test .taken) (c .before .before .before .put-prices .ensures) (c .before .before .marked .ensures) (c .before .passed .ensures) (c .next-end2 .ensures)
+loop-again c = swept-more (c .before .before .before .before .before .before .before .before .before .before .before .pre) (c .before .before .before .before .before .before .loop .inv) (c .before .before .before .before .before .loop-test .taken) (c .before .before .before .before .before .before .before .before .before .word-at .ensures) (c .before .before .before .put-prices .ensures) (c .before .before .marked .ensures) (c .before .passed .ensures) (c .next-gap2 .ensures)
 
--- src/lib.rt:236:16
-cast-t14 : tie.Need-cast-t14 Inv-loop μ-loop
-cast-t14 c = omega (arith, c .before .loop .inv .within, count-most _ (c .before .before .before .before .before .pre .accepted))
+-- src/lib.rt:254:16
+cast-t17 : tie.Need-cast-t17 Inv-loop μ-loop
+cast-t17 c = omega (arith, c .before .loop .inv .within, count-most _ (c .before .before .before .before .before .before .pre .accepted))
 
--- src/lib.rt:210:1
+-- src/lib.rt:225:1
 returns : tie.Need-returns Inv-loop μ-loop
-returns c = swept-all (c .before .before .before .before .before .before .before .before .before .before .pre) (c .before .before .before .before .before .before .loop .inv) (c .before .before .before .before .before .loop-test .left)
+returns c = swept-all (c .before .before .before .before .before .before .before .before .before .before .before .pre) (c .before .before .before .before .before .before .loop .inv) (c .before .before .before .before .before .loop-test .left)
 
 pub steps-spec : {M : Type 1} → statement M
 steps-spec =
@@ -82,17 +95,20 @@ steps-spec =
     (tie.spec
     Inv-loop
     μ-loop
+    word-at-requires
     start-requires
-    next-end-requires
+    next-gap-requires
     loop-holds
+    add-end
+    add-end-2
     mul-ends
     array-write-ends
     put-prices-requires
     marked-requires
     passed-requires
-    next-end-requires-2
+    next-gap-requires-2
     add-n
     loop-less
     loop-again
-    cast-t14
+    cast-t17
     returns)

@@ -1,0 +1,24 @@
+use native.Mathlib.Omega.{arith}
+use borrow.Author.Needs.{needs}
+use mathlib.Core.Path.{refl}
+use Rattle.cutter.proofs.Moves.{gap-is}
+use Rattle.cutter.proofs.gap.Statement.{statement}
+use Rattle.cutter.proofs.gap.Tie as tie
+use Rattle.cutter.proofs.gap.Reads as reads
+use Rattle.cutter.proofs.gap.Lts as lts
+use Rattle.std.proofs.num.wrapping_sub_u32.Reads as wrapping-sub-u32-reads
+
+-- src/lib.rt:165:25
+add-wrapping-sub-u32 : tie.Need-add-wrapping-sub-u32
+add-wrapping-sub-u32 c = search needs
+
+-- src/lib.rt:165:5
+wrapping-sub-u32-requires : tie.Need-wrapping-sub-u32-requires
+wrapping-sub-u32-requires c κs = search needs
+
+-- src/lib.rt:161:1
+returns : tie.Need-returns
+returns c = gap-is _ _ _ _ (c .before .pre .0) (c .before .pre .1) refl (search needs) (c .wrapping-sub-u32 .ensures)
+
+pub gap-spec : {M : Type 1} → statement M
+gap-spec = tie.close (tie.spec add-wrapping-sub-u32 wrapping-sub-u32-requires returns)
