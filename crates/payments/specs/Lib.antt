@@ -4,5 +4,3 @@ pub mod Parts
 pub mod Kinds
 pub mod Amounts
 pub mod Lines
-pub mod Pools
-pub mod PoolSizes

@@ -1,23 +1,22 @@
 -- What a line's steps are paid in the end, from the pool of its side.
-use Prim.Native.Nat.{ℕ, zero, suc, _+_, _*_, _-_, _≤_, _<_, _^_}
-use native.Mathlib.Nat.{le-trans, mul-le-mul-right}
+use Prim.Native.Nat.{ℕ, suc, _≤_, _<_, _^_}
 use native.Mathlib.Omega.{arith}
 use native.Mathlib.Decide.{decLt, ℕ-discrete}
 use mathlib.Core.Path.{_≡_, refl, sym, _∙_, ap, subst}
 use mathlib.Core.List.{List}
-use mathlib.Core.Bool.{Bool, true, false, cond, _||_}
+use mathlib.Core.Bool.{Bool, true, false, _||_}
 use lib.Dec.{eqb}
-use lib.IntN.{ℤ, subℕ}
-use borrow.Author.Tests.{eq-eqb, ne-eqb}
-use Rattle.rules.specs.Fold.{sumTo, sumZ, five, at}
+use lib.IntN.{ℤ}
+use borrow.Author.Tests.{eq-eqb}
+use Rattle.rules.specs.Fold.{sumTo, five, at}
 use Rattle.rules.specs.Layout.{quantityMost, priceMost, lineCount, lineAt, side, clawback}
-use Rattle.rules.specs.Steps.{stepCount, greatestBreak}
+use Rattle.rules.specs.Steps.{stepCount}
 use Rattle.rules.specs.Matching.{rise, fall}
 use Rattle.rules.specs.Payments.{Pool, initial, finalPayment, stepOf, poolOf, stepFinal}
 use Rattle.rules.specs.Totals.{linePayment}
 use Rattle.rules.specs.declared.Step.{Step}
 use Rattle.laws.specs.Accepted.{AcceptedDay}
-use Rattle.laws.specs.Folds.{sum-suc, sum-same, same-five, at-five}
+use Rattle.laws.specs.Folds.{sum-suc, sum-same, at-five}
 use Rattle.laws.specs.Ints.{pl, mi, Split, split-own, split-is}
 use Rattle.numbers.specs.Fives.{five-same, past-five}
 use Rattle.payments.specs.declared.SidePool.{SidePool}
@@ -28,7 +27,7 @@ use Rattle.payments.specs.Amounts as amounts
 use Rattle.payments.specs.Amounts.{sumIn, moneyOf, finalOn, poolAt, InPool, Signable, paymentOf}
 use Rattle.inputs.specs.Paid.{scaled-most, sized}
 use Rattle.pools.specs.Sums.{placeOf, rowTo, poolTo, paidOf, takenOf, moneyTo, sum-split}
-use Rattle.pools.specs.Sides.{stepPoolAt, sidePool, stepAt, lineSum, pool-is}
+use Rattle.pools.specs.Sides.{sidePool, stepAt, lineSum, pool-is}
 use Rattle.pools.specs.Sizes.{sum-fewer, rises-most, falls-most, in-pool}
 
 -- no steps

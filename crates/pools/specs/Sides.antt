@@ -1,16 +1,15 @@
 -- The pool of a line, of a side, and that it is document 01's T, B and "some revised differs" (document 01, "Payments").
-use Prim.Native.Nat.{ℕ, zero, suc, _+_, _≤_, _<_, max}
-use native.Mathlib.Omega.{arith}
-use mathlib.Core.Path.{_≡_, refl, sym, _∙_, ap, ap₂}
+use Prim.Native.Nat.{ℕ, _<_}
+use mathlib.Core.Path.{_≡_, refl, _∙_, ap}
 use mathlib.Core.List.{List}
 use mathlib.Core.Bool.{Bool, true, false, not, cond, _&&_}
 use lib.Dec.{ltb}
-use lib.IntN.{ℤ, pos, subℕ}
+use lib.IntN.{pos}
 use Rattle.rules.specs.Fold.{sumTo, sumZ, someTo, five, at, eqbZ}
 use Rattle.rules.specs.Layout.{lineCount, lineAt}
 use Rattle.rules.specs.Steps.{stepCount}
 use Rattle.rules.specs.Matching.{rise, fall}
-use Rattle.rules.specs.Payments.{Pool, bit, revised, initial, isPaid, onStep, stepOf, stepRevised, ofSide, lineRevised, poolTotal, paidChange, lineChange, poolChange, poolBase, stepDiffers, lineDiffers, poolDiffers, poolOf}
+use Rattle.rules.specs.Payments.{bit, revised, initial, stepOf, stepRevised, ofSide, lineRevised, poolTotal, paidChange, lineChange, poolChange, poolBase, stepDiffers, lineDiffers, poolDiffers, poolOf}
 use Rattle.rules.specs.declared.Step.{Step}
 use Rattle.laws.specs.Folds.{sum-same, sum-none, at-five}
 use Rattle.laws.specs.Ints.{pl, mi, Split, split-own, split-is, split-none}

@@ -1,31 +1,28 @@
 -- Sizes of the pools of an accepted day: no sum leaves its word, and a step is in its side's pool.
-use Prim.Native.Nat.{ℕ, zero, suc, _+_, _*_, _-_, _≤_, _<_, _^_}
-use native.Mathlib.Nat.{le-trans, mul-le-mul-left, mul-le-mul-right, mul-one}
+use Prim.Native.Nat.{ℕ, zero, suc, _*_, _-_, _≤_, _<_}
+use native.Mathlib.Nat.{le-trans, mul-le-mul-left, mul-le-mul-right}
 use native.Mathlib.Omega.{arith}
-use native.Mathlib.Numerals.{add-one}
 use native.Mathlib.Decide.{decLt}
-use mathlib.Core.Path.{_≡_, refl, sym, _∙_, ap, subst}
+use mathlib.Core.Path.{_≡_, refl, _∙_, ap}
 use mathlib.Core.List.{List}
 use mathlib.Core.Bool.{Bool, true, false, not, cond}
-use lib.Dec.{eqb}
-use borrow.Author.Tests.{eq-eqb, ne-eqb}
-use Rattle.rules.specs.Fold.{sumTo, five, at, eqbZ}
-use Rattle.rules.specs.Layout.{quantityMost, priceMost, mostLines, lineCount, lineAt, side}
-use Rattle.rules.specs.Steps.{stepCount, greatestBreak}
+use borrow.Author.Tests.{eq-eqb}
+use Rattle.rules.specs.Fold.{sumTo, at, eqbZ}
+use Rattle.rules.specs.Layout.{quantityMost, priceMost, lineCount, lineAt, side}
+use Rattle.rules.specs.Steps.{stepCount}
 use Rattle.rules.specs.Matching.{earlier, rise, fall}
-use Rattle.rules.specs.Payments.{bit, revised, initial, rate, isPaid, onStep, stepOf, stepPaid, ofSide}
+use Rattle.rules.specs.Payments.{bit, revised, initial, isPaid, onStep, stepOf, ofSide}
 use Rattle.rules.specs.declared.Step.{Step}
 use Rattle.laws.specs.Accepted.{AcceptedDay}
-use Rattle.laws.specs.Folds.{sum-le, sum-most, sum-term, sum-more, sum-suc, at-five}
-use Rattle.laws.specs.Ints.{pl, mi}
+use Rattle.laws.specs.Folds.{sum-le, sum-most, sum-term, sum-suc, at-five}
 use Rattle.numbers.specs.Fives.{past-five}
 use Rattle.cutter.specs.Ends.{count-most, most-limit}
-use Rattle.payments.specs.Sizes.{Sized, rate-most}
+use Rattle.payments.specs.Sizes.{rate-most}
 use Rattle.payments.specs.Parts.{changeOn, initial-plus, revised-plus, revised-most}
 use Rattle.payments.specs.Kinds.{initial-most}
-use Rattle.payments.specs.Amounts.{sumIn, stepPool, differsOn, Addable, InPool}
+use Rattle.payments.specs.Amounts.{sumIn, differsOn, Addable, InPool}
 use Rattle.payments.specs.declared.SidePool.{SidePool}
-use Rattle.inputs.specs.Paid.{scaled-most, sized, constrained-most, earlier-most, change-by, line}
+use Rattle.inputs.specs.Paid.{scaled-most, sized, constrained-most, earlier-most, line}
 use Rattle.pools.specs.Sums.{rowTo, poolTo}
 use Rattle.pools.specs.Sides.{stepPoolAt, linePool, sidePart, sidePool, stepAt, lineSum, sideAt, sideSum, Row, paidIn, takenIn, plus-row, minus-row, rises-row, falls-row, differs-row, steps-place, part-place, lines-place, side-place}
 
@@ -199,19 +196,14 @@ module _ (d : List ℕ) (a : AcceptedDay d) where
         differs = λ s. omega (arith, lines-add (λ p. p .differs) differsOn differs-row d _ (differs-most d a) sd n h s)
       }
 
-  unpaid-past : (k j s : ℕ) → 5 ≤ s → changeOn fall (stepOf d k j) s ≡ 0
-  unfolding changeOn isPaid stepOf
-  unpaid-past k j s h = rw (past-five (stepPaid d k j) s h)
-
   pub in-pool : (k j : ℕ) → k < lineCount d → j < stepCount (lineAt d k) → InPool (stepOf d k j) (sidePool d (side (lineAt d k)))
   in-pool k j l h =
       let sd = side (lineAt d k) in
+      let gas = lines-most quantityMost 12800000000 (omega arith) in
+      let money = lines-most (quantityMost * priceMost) 128000000000000000 (omega arith) in
       record {
-        within =
-          λ s. elim (decLt s 5)
-          [ yes i ↦ step-within (λ p. p .falls) (changeOn fall) falls-row d _ (falls-most d a) k j s l h i
-          | no g ↦ omega (arith, unpaid-past k j s (omega arith)) ];
-        rising = λ s. omega (arith, side-within (λ p. p .rises) (changeOn rise) rises-row d _ (rises-most d a) sd s, lines-most quantityMost 12800000000 (omega arith));
-        falling = λ s. omega (arith, side-within (λ p. p .falls) (changeOn fall) falls-row d _ (falls-most d a) sd s, lines-most quantityMost 12800000000 (omega arith));
-        paying = λ s. omega (arith, side-within (λ p. p .plus) paidIn plus-row d _ (paid-most d a) sd s, lines-most (quantityMost * priceMost) 128000000000000000 (omega arith))
+        within = λ s i. step-within (λ p. p .falls) (changeOn fall) falls-row d _ (falls-most d a) k j s l h i;
+        rising = λ s i. omega (arith, side-within (λ p. p .rises) (changeOn rise) rises-row d _ (rises-most d a) sd s);
+        falling = λ s i. omega (arith, side-within (λ p. p .falls) (changeOn fall) falls-row d _ (falls-most d a) sd s);
+        paying = λ s i. omega (arith, side-within (λ p. p .plus) paidIn plus-row d _ (paid-most d a) sd s)
       }
