@@ -1,3 +1,4 @@
+-- `cutter::cut` meets its contract.
 use borrow.Author.Needs.{needs}
 use Rattle.cutter.proofs.Moves.{cut-short, cut-refused, cut-line, cut-whole}
 use Rattle.cutter.proofs.cut.Statement.{statement}

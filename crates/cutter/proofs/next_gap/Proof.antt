@@ -1,3 +1,4 @@
+-- `cutter::next_gap` meets its contract.
 use native.Mathlib.Omega.{arith}
 use borrow.Author.Needs.{needs}
 use Rattle.cutter.proofs.Moves.{next-is}

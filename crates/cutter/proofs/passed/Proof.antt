@@ -1,3 +1,4 @@
+-- `cutter::passed` meets its contract.
 use native.Mathlib.Omega.{arith}
 use borrow.Author.Needs.{needs}
 use Rattle.cutter.proofs.Moves.{bid-read, passed-is}

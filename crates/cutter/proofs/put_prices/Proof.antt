@@ -1,3 +1,4 @@
+-- `cutter::put_prices` meets its contract.
 use native.Mathlib.Omega.{arith}
 use borrow.Author.Needs.{needs}
 use Rattle.cutter.proofs.Moves.{price-read, put-is}

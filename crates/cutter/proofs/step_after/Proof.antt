@@ -1,3 +1,4 @@
+-- `cutter::step_after` meets its contract.
 use native.Mathlib.Omega.{arith}
 use borrow.Author.Needs.{needs}
 use Rattle.cutter.proofs.Moves.{bit-one, bit-over, after-is}
