@@ -13,7 +13,7 @@ pub ten-matches-spec : {M : Type 1} → statement M
 ten-matches-spec =
     tie.close
     (tie.spec
-    (λ c κs. search needs)
+    (λ c κs. tt)
     (λ c. search needs)
     (λ c. search needs)
     (λ c. search needs)

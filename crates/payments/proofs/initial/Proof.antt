@@ -15,4 +15,4 @@ returns : tie.Need-returns
 returns c = rw (c .signed-money .ensures, c .before .initial-money .ensures) (money-back (initial (c .before .before .args .x)))
 
 pub initial-spec : {M : Type 1} → statement M
-initial-spec = tie.close (tie.spec (λ c κs. search needs) signed-money-requires returns)
+initial-spec = tie.close (tie.spec (λ c κs. tt) signed-money-requires returns)

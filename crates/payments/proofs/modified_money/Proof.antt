@@ -22,9 +22,9 @@ pub modified-money-spec : {M : Type 1} → statement M
 modified-money-spec =
     tie.close
     (tie.spec
-    (λ c κs. search needs)
-    (λ c κs. search needs)
-    (λ c κs. search needs)
-    (λ c κs. search needs)
+    (λ c κs. tt)
+    (λ c κs. tt)
+    (λ c κs. tt)
+    (λ c κs. tt)
     modified-minus-requires
     returns)

@@ -22,8 +22,8 @@ pub revised-money-spec : {M : Type 1} → statement M
 revised-money-spec =
     tie.close
     (tie.spec
-    (λ c κs. search needs)
-    (λ c κs. search needs)
-    (λ c κs. search needs)
+    (λ c κs. tt)
+    (λ c κs. tt)
+    (λ c κs. tt)
     revised-minus-requires
     returns)

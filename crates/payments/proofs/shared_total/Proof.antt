@@ -11,4 +11,4 @@ returns-2 : tie.Need-returns-2
 returns-2 c = rw (ne-eqb (c .before .before .args .differs) 0 (c .before .if1 .left)) (c .less64 .ensures)
 
 pub shared-total-spec : {M : Type 1} → statement M
-shared-total-spec = tie.close (tie.spec returns (λ c κs. search needs) returns-2)
+shared-total-spec = tie.close (tie.spec returns (λ c κs. tt) returns-2)

@@ -59,8 +59,8 @@ taken-back-spec =
     returns-2
     returns-3
     returns-4
-    (λ c κs. search needs)
+    (λ c κs. tt)
     share-requires
     add-lesser64
-    (λ c κs. search needs)
+    (λ c κs. tt)
     returns-5)

@@ -9,4 +9,4 @@ unfolding actualOn
 returns c = c .allocate .ensures
 
 pub actual-on-spec : {M : Type 1} → statement M
-actual-on-spec = tie.close (tie.spec (λ c κs. search needs) returns)
+actual-on-spec = tie.close (tie.spec (λ c κs. tt) returns)

@@ -9,4 +9,4 @@ unfolding msiqOn
 returns c = rw (c .msiq .ensures, c .before .pricing-on .ensures)
 
 pub msiq-on-spec : {M : Type 1} → statement M
-msiq-on-spec = tie.close (tie.spec (λ c κs. search needs) (λ c κs. search needs) returns)
+msiq-on-spec = tie.close (tie.spec (λ c κs. tt) (λ c κs. tt) returns)

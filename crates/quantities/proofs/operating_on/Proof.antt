@@ -10,4 +10,4 @@ unfolding operatingOn allocatedIn
 returns c = c .allocate-all .ensures
 
 pub operating-on-spec : {M : Type 1} → statement M
-operating-on-spec = tie.close (tie.spec (λ c κs. search needs) returns)
+operating-on-spec = tie.close (tie.spec (λ c κs. tt) returns)

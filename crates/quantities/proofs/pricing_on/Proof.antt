@@ -10,4 +10,4 @@ unfolding pricingOn allocatedIn
 returns c = c .allocate-all .ensures
 
 pub pricing-on-spec : {M : Type 1} → statement M
-pricing-on-spec = tie.close (tie.spec (λ c κs. search needs) returns)
+pricing-on-spec = tie.close (tie.spec (λ c κs. tt) returns)
