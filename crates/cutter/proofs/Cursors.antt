@@ -9,19 +9,17 @@ use mathlib.Core.List.{List, [], _∷_, _++_}
 use lib.ListN.{length, getD}
 use lib.Dec.{ltb, eqb}
 use borrow.Author.Tests.{lt-ltb, le-ltb, eq-eqb, ne-eqb}
-use Rattle.rules.specs.Fold.{before, joined, listTo}
+use Rattle.rules.specs.Fold.{before, joined}
 use Rattle.rules.specs.Layout.{quantityMost, hedge, bidCount, bidBreak, bidPrice}
-use Rattle.rules.specs.Steps.{bidStep, price, flag, ends, hedgePoint, bidBreaks, stepCount, upperEnd, lowerEnd, greatestBreak}
-use Rattle.laws.specs.Folds.{joined-none, joined-suc}
-use Rattle.laws.specs.Accepted.{AcceptedLine, AcceptedBid}
+use Rattle.rules.specs.Steps.{bidStep, price, flag, ends, hedgePoint, bidBreaks, stepCount, lowerEnd}
+use Rattle.laws.specs.Accepted.{AcceptedLine}
 use Rattle.cutter.specs.Search.{First, step-is, first-stays, first-moves}
 use Rattle.cutter.specs.Lists.{_∈_}
 use Rattle.cutter.specs.Ends.{end-of, end-most, most-limit, ends-rise}
 use Rattle.cutter.specs.Prices.{bid-first, price-min, flag-found, flag-none}
 use Rattle.cutter.specs.Sweep.{past, above, bitIf, cursorAt, cursorFor, cursorMoved, stepAfter, sweepFor, sweepMoved, gapOf, nextGap, Within, Limited}
-use Rattle.cutter.specs.declared.Cursor.{Cursor}
 use Rattle.cutter.specs.declared.Sweep.{Sweep}
-use Rattle.cutter.proofs.Least.{above-in, above-not, leastAbove, least-most, least-append, least-rising, least-one, least-before, least-after, least-next}
+use Rattle.cutter.proofs.Least.{above-in, above-not, leastAbove, least-append, least-rising, least-one, least-before, least-after, least-next}
 
 -- breaks that rise
 rises-next : (br : ℕ → ℕ) (n : ℕ) → ((j : ℕ) → j < n → before br j < br j) → (k : ℕ) → suc k < n → br k < br (suc k)

@@ -9,9 +9,9 @@ use lib.ListN.{length, getD, take, set, replicate, length-append, length-replica
 use lib.Seq.{take-suc, set-at, set-append-left, append-snoc, length-take-le, take-nil, take-all}
 use lib.Pow.{pow-pos}
 use lib.Count.{ones, onesIn, ones-step}
-use Rattle.rules.specs.Fold.{padded, joined, sumOf, five}
+use Rattle.rules.specs.Fold.{padded, joined, sumOf}
 use Rattle.rules.specs.Cutting.{bits}
-use Rattle.laws.specs.Folds.{joined-suc, joined-none, joined-length}
+use Rattle.laws.specs.Folds.{joined-length}
 
 -- the first n of a list, with zeros behind
 zeros-more : (m n : ℕ) → n < m → replicate {A = ℕ} (m - n) 0 ≡ 0 ∷ replicate (m - suc n) 0

@@ -8,9 +8,8 @@ use mathlib.Core.List.{List, [], _∷_, _++_}
 use lib.ListN.{length, getD}
 use lib.Dec.{ltb, eqb}
 use borrow.Author.Tests.{lt-ltb, le-ltb, eq-eqb, ne-eqb}
-use Rattle.rules.specs.Fold.{joined, listTo}
+use Rattle.rules.specs.Fold.{listTo}
 use Rattle.rules.specs.Steps.{insert, rising}
-use Rattle.laws.specs.Folds.{joined-none, joined-suc, list-suc}
 use Rattle.cutter.specs.Search.{First}
 use Rattle.cutter.specs.Lists.{_∈_, here, there, Order, less, same, more, order, insert-none, insert-lt, insert-eq, insert-gt, Rises, rises-none, rises-more, rises-mono}
 use Rattle.cutter.specs.Sweep.{past, above}

@@ -12,12 +12,11 @@ use lib.Pow.{shl-exact}
 use borrow.Author.Tests.{lt-ltb, le-ltb, eq-eqb, ne-eqb}
 use Rattle.rules.specs.Layout.{quantityMost, bidCount, bidBreak, bidPrice}
 use Rattle.rules.specs.Steps.{bidStep}
-use Rattle.rules.specs.Fold.{refuse, _orElse_}
 use Rattle.rules.specs.Refusals.{lineFault, cutFault}
 use Rattle.rules.specs.Cutting.{cutOf, cutRefused, cutAnswer}
 use Rattle.rules.specs.declared.Cut.{Cut}
 use Rattle.laws.specs.Folds.{refuse-true, refuse-false, orElse-zero, orElse-stop}
-use Rattle.laws.specs.Accepted.{AcceptedLine, AcceptedBid, accepted-line}
+use Rattle.laws.specs.Accepted.{accepted-line}
 use Rattle.cutter.specs.Search.{First, step-is}
 use Rattle.cutter.specs.Certificate.{answer-whole}
 use Rattle.cutter.specs.Sweep.{Line, BidRead, Room, bitIf, cursorAt, cursorFor, cursorMoved, stepAfter, sweepFor, sweepMoved, gapOf, nextGap}

@@ -9,17 +9,16 @@ use mathlib.Core.List.{List, [], _∷_, _++_, map}
 use lib.ListN.{length, getD, take, set, replicate, length-map, List·getD-eq-default}
 use lib.Seq.{take-all}
 use lib.Count.{ones}
-use Rattle.rules.specs.Fold.{padded, joined, sumOf, five}
+use Rattle.rules.specs.Fold.{padded, joined}
 use Rattle.rules.specs.Layout.{quantityMost, hedge}
-use Rattle.rules.specs.Steps.{ends, stepCount, upperEnd, lowerEnd, price, flag, greatestBreak}
+use Rattle.rules.specs.Steps.{ends, stepCount, upperEnd, lowerEnd, price, flag}
 use Rattle.rules.specs.Cutting.{bits, prices, flags, flagWord, missing, priceRow, cutOf}
 use Rattle.rules.specs.declared.Cut.{Cut}
-use Rattle.laws.specs.Folds.{joined-none, joined-suc}
 use Rattle.laws.specs.Accepted.{AcceptedLine}
-use Rattle.cutter.specs.Lists.{in-at, rises-at}
-use Rattle.cutter.specs.Ends.{end-of, end-most, most-limit, ends-rise, count-most}
+use Rattle.cutter.specs.Lists.{in-at}
+use Rattle.cutter.specs.Ends.{end-of, end-most, most-limit, count-most}
 use Rattle.cutter.specs.Prices.{flag-most, prices-length, prices-at, flags-length, flags-at, flags-most}
-use Rattle.cutter.specs.Arrays.{map-at, padded-length}
+use Rattle.cutter.specs.Arrays.{padded-length}
 use Rattle.cutter.specs.Sweep.{Line, Room, Markable, Within, Limited, past, sweepFor, sweepMoved, nextGap, withFlag, wordsMarked, pricesPut}
 use Rattle.cutter.specs.declared.Sweep.{Sweep}
 use Rattle.cutter.specs.declared.Words.{Words}

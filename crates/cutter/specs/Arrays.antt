@@ -8,7 +8,7 @@ use lib.ListN.{length, getD, replicate, length-append, length-replicate, List·g
 use lib.Seq.{getD-append-add}
 use Rattle.rules.specs.Fold.{padded, joined, sumOf, sumTo, five}
 use Rattle.rules.specs.Cutting.{bits}
-use Rattle.laws.specs.Folds.{joined-suc, joined-length, sum-none, sum-suc}
+use Rattle.laws.specs.Folds.{joined-suc, joined-length, sum-none}
 
 zeros-at : (n k : ℕ) → _≡_ {A = ℕ} (getD (replicate n 0) k 0) 0
 zeros-at zero k = refl

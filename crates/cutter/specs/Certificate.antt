@@ -8,18 +8,18 @@ use mathlib.Core.List.{List, []}
 use lib.ListN.{length, getD, length-map, List·getD-eq-default}
 use lib.Dec.{eqb}
 use borrow.Author.Tests.{eq-eqb, eqb-true, eqb-false, ltb-false, leb-false}
-use Rattle.rules.specs.Fold.{before, sumTo, refuse, _orElse_, first, padded, joined, five}
-use Rattle.rules.specs.Layout.{side, accreditation, hedge, withdrawal, quantityMost, priceMost, bidSlots, bidCount, bidBreak, bidPrice}
+use Rattle.rules.specs.Fold.{before, sumTo}
+use Rattle.rules.specs.Layout.{side}
 use Rattle.rules.specs.Steps.{ends, stepCount, upperEnd, greatestBreak, price, flag}
-use Rattle.rules.specs.Refusals.{lineFault, bidFault, breakFault, priceFault, orderFault, unusedFault, totalFault, actualFault, cutFault, outOfOrder}
-use Rattle.rules.specs.Cutting.{stepPlaces, prices, flags, flagWord, missing, priceRow, cutOf, cutRefused, cutAnswer, bits}
+use Rattle.rules.specs.Refusals.{cutFault, outOfOrder}
+use Rattle.rules.specs.Cutting.{prices, flags, flagWord, missing, priceRow, cutOf, cutRefused, cutAnswer}
 use Rattle.rules.specs.declared.Cut.{Cut}
-use Rattle.laws.specs.Folds.{Both, orElse-both, refuse-zero, first-at, sum-none, sum-suc, sum-same}
+use Rattle.laws.specs.Folds.{orElse-both, sum-none, sum-suc, sum-same}
 use Rattle.laws.specs.Accepted.{AcceptedLine, accepted-line}
-use Rattle.cutter.specs.Lists.{_∈_, in-at, place-of, rises-at, rises-mono}
+use Rattle.cutter.specs.Lists.{in-at, place-of, rises-at, rises-mono}
 use Rattle.cutter.specs.Ends.{EndOf, end-of, of-end, ends-rise, count-most, count-some, last-is}
 use Rattle.cutter.specs.Prices.{PriceRule, price-rule, price-order, flag-stays, prices-length, prices-at, flags-length, flags-at, flags-most}
-use Rattle.cutter.specs.Arrays.{bitAt, padded-at, padded-length, map-at, rows-at, five-at, bits-at, sum-places}
+use Rattle.cutter.specs.Arrays.{bitAt, padded-at, padded-length, rows-at, five-at, bits-at, sum-places}
 
 -- the answer's upper end of step k, the one before (0 before the first), and the width
 unfoldable pub endAt : Cut → ℕ → ℕ

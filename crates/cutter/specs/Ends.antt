@@ -10,14 +10,13 @@ use mathlib.Core.List.{List, [], _∷_, _++_}
 use lib.ListN.{length, getD, length-append}
 use lib.Dec.{eqb}
 use borrow.Author.Tests.{eq-eqb, ne-eqb}
-use Rattle.rules.specs.Fold.{joined, listTo, before, mostTo}
-use Rattle.rules.specs.Layout.{quantityMost, side, hedge, bidCount, bidBreak, bidPrice}
-use Rattle.rules.specs.Refusals.{outOfOrder}
-use Rattle.rules.specs.Steps.{ends, rising, hedgePoint, bidBreaks, stepCount, upperEnd, greatestBreak, bidMost}
+use Rattle.rules.specs.Fold.{joined, listTo}
+use Rattle.rules.specs.Layout.{quantityMost, hedge, bidCount, bidBreak}
+use Rattle.rules.specs.Steps.{ends, hedgePoint, bidBreaks, stepCount, upperEnd, greatestBreak, bidMost}
 use Rattle.laws.specs.Folds.{joined-none, joined-suc, list-length, most-least, most-term}
 use Rattle.laws.specs.Accepted.{AcceptedLine}
-use Rattle.cutter.specs.Lists.{_∈_, here, there, in-cons, in-none, in-left, in-right, in-append, in-at, Place, place-of}
-use Rattle.cutter.specs.Lists.{in-list, ListPlace, list-in, in-joined, JoinedPlace, joined-in, in-rising, rising-in}
+use Rattle.cutter.specs.Lists.{_∈_, here, in-cons, in-none, in-left, in-right, in-append, in-at, place-of}
+use Rattle.cutter.specs.Lists.{in-list, list-in, in-joined, joined-in, in-rising, rising-in}
 use Rattle.cutter.specs.Lists.{Rises, rises-rising, rising-length, rises-mono}
 
 -- "every distinct break of the five bids and .. the hedge if that isn't 0": what makes u an upper end

@@ -11,7 +11,7 @@ use lib.Dec.{ltb, eqb}
 use borrow.Author.Tests.{lt-ltb, le-ltb, eq-eqb, ne-eqb}
 use Rattle.rules.specs.Fold.{joined, listTo}
 use Rattle.rules.specs.Steps.{insert, rising}
-use Rattle.laws.specs.Folds.{joined-none, joined-suc, list-suc}
+use Rattle.laws.specs.Folds.{joined-suc, list-suc}
 
 infix 15 _∈_
 -- what stands in a list

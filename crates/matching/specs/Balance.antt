@@ -10,7 +10,7 @@ use lib.ListN.{length, getD, take}
 use lib.Seq.{getD-take, length-take-le}
 use borrow.Author.Tests.{lt-ltb, le-ltb}
 use Rattle.rules.specs.Fold.{sumTo, sumOf, at, before}
-use Rattle.rules.specs.Matching.{earlier, rise, fall, takes, leaves, openRises, matchesOf, matched}
+use Rattle.rules.specs.Matching.{earlier, rise, fall, leaves, openRises, matchesOf, matched}
 use Rattle.laws.specs.Folds.{sum-none, sum-suc, sum-most}
 use Rattle.matching.specs.Takings.{takes-length, leaves-length, takes-sum, leaves-sum, taken-left, takes-at}
 

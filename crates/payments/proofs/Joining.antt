@@ -14,9 +14,9 @@ use Rattle.rules.specs.Layout.{quantityMost, priceMost}
 use Rattle.rules.specs.Matching.{rise, fall, matched}
 use Rattle.rules.specs.Payments.{onStep, bit, rate, revisedRate, isPaid, initial, revised, modified, matchedAt, givenBack}
 use Rattle.rules.specs.declared.Step.{Step}
-use Rattle.laws.specs.Folds.{sum-none, sum-suc, sum-same}
+use Rattle.laws.specs.Folds.{sum-suc, sum-same}
 use Rattle.laws.specs.Ints.{pl, mi}
-use Rattle.numbers.specs.Fives.{at-five, five-is, five-same}
+use Rattle.numbers.specs.Fives.{at-five, five-same}
 use Rattle.matching.specs.Ledgers.{matchRow}
 use Rattle.matching.specs.Balance.{matched-out}
 use Rattle.payments.specs.Sizes.{Sized, rate-most, revisedRate-most, fall-most, givenBack-most}

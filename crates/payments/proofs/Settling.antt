@@ -10,10 +10,10 @@ use lib.IntN.{ℤ}
 use borrow.Author.Tests.{ne-eqb, lt-ltb}
 use Rattle.rules.specs.Fold.{five, at}
 use Rattle.rules.specs.Layout.{quantityMost, priceMost}
-use Rattle.rules.specs.Matching.{rise, fall}
-use Rattle.rules.specs.Payments.{Pool, onStep, rate, isPaid, initial, revised, modified, finalPayment}
+use Rattle.rules.specs.Matching.{fall}
+use Rattle.rules.specs.Payments.{onStep, rate, isPaid, initial, revised, modified, finalPayment}
 use Rattle.rules.specs.declared.Step.{Step}
-use Rattle.laws.specs.Ints.{pl, mi, pl-subℕ, parts}
+use Rattle.laws.specs.Ints.{mi, pl-subℕ, parts}
 use Rattle.numbers.specs.Fives.{at-five, five-is, five-same, five-most}
 use Rattle.payments.specs.declared.SidePool.{SidePool}
 use Rattle.payments.specs.Sizes.{Sized}

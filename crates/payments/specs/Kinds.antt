@@ -11,11 +11,11 @@ use lib.Signed.{leZ}
 use Rattle.rules.specs.Fold.{at, before}
 use Rattle.rules.specs.Layout.{quantityMost, priceMost}
 use Rattle.rules.specs.Matching.{earlier, rise, fall}
-use Rattle.rules.specs.Payments.{Pool, onStep, rate, revisedRate, isPaid, givenBack, initial, revised, modified, finalPayment}
+use Rattle.rules.specs.Payments.{Pool, onStep, rate, isPaid, givenBack, initial, revised, modified, finalPayment}
 use Rattle.rules.specs.declared.Step.{Step}
-use Rattle.laws.specs.Ints.{pl, mi, apart, eqZ, le-leZ}
+use Rattle.laws.specs.Ints.{pl, mi, eqZ, le-leZ}
 use Rattle.payments.specs.Sizes.{Sized, rate-most, rise-most, fall-most, givenBack-most}
-use Rattle.payments.specs.Parts.{changeOn, initial-plus, initial-minus, revised-plus, revised-minus, revised-most, modified-plus, modified-minus, takenBack, sharedTotal, final-plus, final-minus}
+use Rattle.payments.specs.Parts.{changeOn, initial-plus, initial-minus, revised-plus, revised-most, modified-plus, modified-minus, takenBack, sharedTotal, final-plus, final-minus}
 
 -- initial of schedule 1 takes nothing back
 none-by : (t : Bool) (a n : ℕ) → cond t (0 - a) 0 * n ≡ 0

@@ -7,18 +7,18 @@ use mathlib.Core.Path.{_≡_, refl, sym, _∙_}
 use mathlib.Core.Bool.{Bool, true, false, cond}
 use mathlib.Core.List.{List}
 use lib.IntN.{ℤ}
-use Rattle.rules.specs.Fold.{sumTo, sumZ, five, at, before}
+use Rattle.rules.specs.Fold.{sumTo, sumZ, at, before}
 use Rattle.rules.specs.Layout.{quantityMost, priceMost, marketPrice, lineAt, clawback, side}
-use Rattle.rules.specs.Steps.{greatestBreak, stepCount, upperEnd}
+use Rattle.rules.specs.Steps.{greatestBreak, stepCount}
 use Rattle.rules.specs.Quantities.{operatingTotal}
 use Rattle.rules.specs.Matching.{earlier, rise, fall}
-use Rattle.rules.specs.Payments.{onStep, isPaid, stepPrice, stepOf, stepRevised, stepFinal, paidChange, poolOf, revised}
+use Rattle.rules.specs.Payments.{onStep, isPaid, stepPrice, stepOf, stepRevised, stepFinal, paidChange, poolOf}
 use Rattle.laws.specs.Folds.{sum-none, sum-suc, sum-le, sumZ-none, sumZ-suc}
 use Rattle.laws.specs.Ints.{pl, mi, pl-add, mi-add}
 use Rattle.numbers.specs.Fives.{five-most}
 use Rattle.quantities.specs.Adding.{RisingEnds, upper-most, stepConstrained, constrained-adds-up}
-use Rattle.payments.specs.Sizes.{Sized, rate-most}
-use Rattle.payments.specs.Parts.{changeOn, initial-plus, initial-minus, revised-plus, revised-most}
+use Rattle.payments.specs.Sizes.{Sized}
+use Rattle.payments.specs.Parts.{changeOn}
 use Rattle.payments.specs.Kinds.{Within, paid-most, taken-most, revised-paid-most, revised-taken-most}
 
 -- what an accepted day gives of line k

@@ -16,7 +16,7 @@ use Rattle.rules.specs.Refusals.{lineFault}
 use Rattle.rules.specs.Payments.{stepOf, initial, ofSide}
 use Rattle.rules.specs.declared.Step.{Step}
 use Rattle.rules.specs.declared.Cut.{Cut}
-use Rattle.laws.specs.Accepted.{AcceptedDay, AcceptedLine, accepted-line, accepted-line-at}
+use Rattle.laws.specs.Accepted.{AcceptedDay, accepted-line, accepted-line-at}
 use Rattle.day.proofs.Laws.{line-length}
 use Rattle.cutter.specs.Sweep.{Line}
 use Rattle.cutter.specs.Ends.{count-most}

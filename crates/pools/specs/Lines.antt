@@ -38,7 +38,7 @@ noPool =
       minus = five (λ s. 0);
       rises = five (λ s. 0);
       falls = five (λ s. 0);
-      differs = five (λ s. 0)
+      differs = five (λ s. 0);
     }
 
 -- the pool that the payments of a side read: the side's, unless clawback is off
@@ -69,11 +69,12 @@ off-initial x claw s p e = rw (eq-eqb claw 0 e, or-true (eqb s 0))
 pub final-is : (d : List ℕ) (k j : ℕ) (p : SidePool) → PoolFor d (side (lineAt d k)) p → (s : ℕ) → s < 5 → finalOn (stepOf d k j) (clawback d) p s ≡ finalAt d k j s
 unfolding finalOn finalAt stepFinal
 final-is d k j p h s l =
-    elim (ℕ-discrete (clawback d) 0)
-    [ yes e ↦ off-initial (stepOf d k j) (clawback d) s (poolAt p s) e ∙ sym (off-initial (stepOf d k j) (clawback d) s (poolOf d (side (lineAt d k)) s) e)
-    | no n ↦
-      ap (finalPayment (stepOf d k j) (clawback d) s)
-      (ap (λ (q : SidePool). poolAt q s) (h .shared n) ∙ pool-is d (side (lineAt d k)) s l) ]
+    elim (ℕ-discrete (clawback d) 0) [
+      | yes e ↦ off-initial (stepOf d k j) (clawback d) s (poolAt p s) e ∙ sym (off-initial (stepOf d k j) (clawback d) s (poolOf d (side (lineAt d k)) s) e)
+      | no n ↦
+          ap (finalPayment (stepOf d k j) (clawback d) s)
+          (ap (λ (q : SidePool). poolAt q s) (h .shared n) ∙ pool-is d (side (lineAt d k)) s l)
+    ]
 
 pub money-same : (f g : ℕ → ℤ) → ((s : ℕ) → s < 5 → f s ≡ g s) → moneyOf f ≡ moneyOf g
 unfolding moneyOf amounts.plusOf amounts.minusOf
@@ -130,18 +131,20 @@ module _ (of : Money → List ℕ) (part : ℤ → ℕ) (row : Part of part) (d 
     pub part-adds : (k n : ℕ) → k < lineCount d → n < stepCount (lineAt d k) → (s : ℕ) → sumIn (of (moneyTo n (stepMoney d k))) (of (stepMoney d k n)) s < 2 ^ 64
     unfolding sumIn
     part-adds k n l h s =
-        elim (decLt s 5)
-        [ yes i ↦
-          let f = partAt part d s k in
-          let m = sum-fewer (suc n) (stepCount (lineAt d k)) f (omega arith) in
-          omega (arith, money-place k n s i, step-place k n s i, sum-suc n f, most k s l i)
-        | no g ↦ omega (arith, past-money k n s (omega arith), past-step k n s (omega arith)) ]
+        elim (decLt s 5) [
+          | yes i ↦
+              let f = partAt part d s k in
+              let m = sum-fewer (suc n) (stepCount (lineAt d k)) f (omega arith) in
+              omega (arith, money-place k n s i, step-place k n s i, sum-suc n f, most k s l i)
+          | no g ↦ omega (arith, past-money k n s (omega arith), past-step k n s (omega arith))
+        ]
 
     pub part-fits : (k : ℕ) → k < lineCount d → (s : ℕ) → at (of (moneyTo (stepCount (lineAt d k)) (stepMoney d k))) s < 2 ^ 63
     part-fits k l s =
-        elim (decLt s 5)
-        [ yes i ↦ omega (arith, money-place k (stepCount (lineAt d k)) s i, most k s l i)
-        | no g ↦ omega (arith, past-money k (stepCount (lineAt d k)) s (omega arith)) ]
+        elim (decLt s 5) [
+          | yes i ↦ omega (arith, money-place k (stepCount (lineAt d k)) s i, most k s l i)
+          | no g ↦ omega (arith, past-money k (stepCount (lineAt d k)) s (omega arith))
+        ]
 
 module _ (d : List ℕ) (a : AcceptedDay d) where
   pub line-paid-most : (k s : ℕ) → k < lineCount d → s < 5 → sumTo (stepCount (lineAt d k)) (partAt pl d s k) ≤ 2000000000000000
@@ -167,7 +170,7 @@ module _ (d : List ℕ) (a : AcceptedDay d) where
   line-signable k l =
       record {
         plus = part-fits (λ m. m .plus) pl paid-part d line-paid-most k l;
-        minus = part-fits (λ m. m .minus) mi taken-part d line-taken-most k l
+        minus = part-fits (λ m. m .minus) mi taken-part d line-taken-most k l;
       }
 
 -- the line's payment in s, from its money

@@ -31,9 +31,10 @@ pub sum-fewer : (m n : ℕ) (f : ℕ → ℕ) → m ≤ n → sumTo m f ≤ sumT
 sum-fewer m zero f h = let e : m ≡ 0 = omega arith in rw e (omega arith)
 sum-fewer m (suc n) f h =
     let r = sum-fewer m n f in
-    elim (decLt n m)
-    [ yes l ↦ let e : m ≡ suc n = omega arith in rw e (omega arith)
-    | no g ↦ let q = r (omega arith) in rw (sum-suc n f) (omega arith) ]
+    elim (decLt n m) [
+      | yes l ↦ let e : m ≡ suc n = omega arith in rw e (omega arith)
+      | no g ↦ let q = r (omega arith) in rw (sum-suc n f) (omega arith)
+    ]
 
 -- a paid rise is at most C(s), and a paid fall at most C(s-1)
 cond-most : (t : Bool) (c : ℕ) → cond t c 0 ≤ c
@@ -69,9 +70,9 @@ module _ (d : List ℕ) (a : AcceptedDay d) where
       let w = lineAt d k in
       scaled-most (stepCount w) priceMost quantityMost _ (stepAt (changeOn rise) d s k)
       (λ j h.
-        let x = stepOf d k j in
-        let m = mul-le-mul-left (changeOn rise x s) (rate-most x s (sized d a k l j h)) in
-        omega (arith, revised-plus x s, initial-plus x s))
+      let x = stepOf d k j in
+      let m = mul-le-mul-left (changeOn rise x s) (rate-most x s (sized d a k l j h)) in
+      omega (arith, revised-plus x s, initial-plus x s))
       (rises-most k s l i)
 
   pub taken-most : (k s : ℕ) → k < lineCount d → s < 5 → lineSum takenIn d s k ≤ quantityMost * priceMost
@@ -80,8 +81,8 @@ module _ (d : List ℕ) (a : AcceptedDay d) where
       let w = lineAt d k in
       scaled-most (stepCount w) priceMost quantityMost _ (stepAt (changeOn fall) d s k)
       (λ j h.
-        let x = stepOf d k j in
-        omega (arith, revised-most x s, initial-most x s (sized d a k l j h)))
+      let x = stepOf d k j in
+      omega (arith, revised-most x s, initial-most x s (sized d a k l j h)))
       (falls-most k s l i)
 
   bit-most : (t : Bool) → bit t ≤ 1
@@ -111,12 +112,13 @@ module _ (of : SidePool → List ℕ) (q : Step → ℕ → ℕ) (row : Row of q
   pub steps-add : (k n : ℕ) → k < lineCount d → n < stepCount (lineAt d k) → (s : ℕ) → sumIn (of (poolTo n (stepPoolAt d k))) (of (stepPoolAt d k n)) s ≤ b
   unfolding sumIn lineSum
   steps-add k n l h s =
-      elim (decLt s 5)
-      [ yes i ↦
-        let f = stepAt q d s k in
-        let m = sum-fewer (suc n) (stepCount (lineAt d k)) f (omega arith) in
-        omega (arith, steps-place of q row d s i k n, step-is k n s i, sum-suc n f, most k s l i)
-      | no g ↦ omega (arith, past-steps k n s (omega arith), past-step k n s (omega arith)) ]
+      elim (decLt s 5) [
+        | yes i ↦
+            let f = stepAt q d s k in
+            let m = sum-fewer (suc n) (stepCount (lineAt d k)) f (omega arith) in
+            omega (arith, steps-place of q row d s i k n, step-is k n s i, sum-suc n f, most k s l i)
+        | no g ↦ omega (arith, past-steps k n s (omega arith), past-step k n s (omega arith))
+      ]
 
   side-by : (sd k s : ℕ) (t : Bool) → k < lineCount d → s < 5 → cond t (lineSum q d s k) 0 ≤ b
   side-by sd k s true l i = most k s l i
@@ -141,22 +143,24 @@ module _ (of : SidePool → List ℕ) (q : Step → ℕ → ℕ) (row : Row of q
   pub lines-add : (sd n : ℕ) → n < lineCount d → (s : ℕ) → sumIn (of (poolTo n (sidePart d sd))) (of (sidePart d sd n)) s ≤ lineCount d * b
   unfolding sumIn
   lines-add sd n h s =
-      elim (decLt s 5)
-      [ yes i ↦
-        let f = sideAt q d sd s in
-        let m = sum-fewer (suc n) (lineCount d) f (omega arith) in
-        let t = sum-most (lineCount d) b f (λ k l. side-most sd k s l i) in
-        omega (arith, lines-place of q row d s i sd n, part-place of q row d s i sd n, sum-suc n f)
-      | no g ↦ omega (arith, past-lines sd n s (omega arith), past-part sd n s (omega arith)) ]
+      elim (decLt s 5) [
+        | yes i ↦
+            let f = sideAt q d sd s in
+            let m = sum-fewer (suc n) (lineCount d) f (omega arith) in
+            let t = sum-most (lineCount d) b f (λ k l. side-most sd k s l i) in
+            omega (arith, lines-place of q row d s i sd n, part-place of q row d s i sd n, sum-suc n f)
+        | no g ↦ omega (arith, past-lines sd n s (omega arith), past-part sd n s (omega arith))
+      ]
 
   pub side-within : (sd s : ℕ) → at (of (sidePool d sd)) s ≤ lineCount d * b
   unfolding sidePool
   side-within sd s =
-      elim (decLt s 5)
-      [ yes i ↦
-        let t = sum-most (lineCount d) b (sideAt q d sd s) (λ k l. side-most sd k s l i) in
-        omega (arith, lines-place of q row d s i sd (lineCount d))
-      | no g ↦ omega (arith, past-lines sd (lineCount d) s (omega arith)) ]
+      elim (decLt s 5) [
+        | yes i ↦
+            let t = sum-most (lineCount d) b (sideAt q d sd s) (λ k l. side-most sd k s l i) in
+            omega (arith, lines-place of q row d s i sd (lineCount d))
+        | no g ↦ omega (arith, past-lines sd (lineCount d) s (omega arith))
+      ]
 
   -- a step's figure is at most its side's
   pub step-within : (k j s : ℕ) → k < lineCount d → j < stepCount (lineAt d k) → s < 5 → q (stepOf d k j) s ≤ at (of (sidePool d (side (lineAt d k)))) s
@@ -180,7 +184,7 @@ module _ (d : List ℕ) (a : AcceptedDay d) where
         minus = λ s. omega (arith, steps-add (λ p. p .minus) takenIn minus-row d _ (taken-most d a) k n l h s);
         rises = λ s. omega (arith, steps-add (λ p. p .rises) (changeOn rise) rises-row d _ (rises-most d a) k n l h s);
         falls = λ s. omega (arith, steps-add (λ p. p .falls) (changeOn fall) falls-row d _ (falls-most d a) k n l h s);
-        differs = λ s. omega (arith, steps-add (λ p. p .differs) differsOn differs-row d _ (differs-most d a) k n l h s)
+        differs = λ s. omega (arith, steps-add (λ p. p .differs) differsOn differs-row d _ (differs-most d a) k n l h s);
       }
 
   pub lines-addable : (sd n : ℕ) → n < lineCount d → Addable (poolTo n (sidePart d sd)) (sidePart d sd n)
@@ -193,7 +197,7 @@ module _ (d : List ℕ) (a : AcceptedDay d) where
         minus = λ s. omega (arith, lines-add (λ p. p .minus) takenIn minus-row d _ (taken-most d a) sd n h s);
         rises = λ s. omega (arith, lines-add (λ p. p .rises) (changeOn rise) rises-row d _ (rises-most d a) sd n h s);
         falls = λ s. omega (arith, lines-add (λ p. p .falls) (changeOn fall) falls-row d _ (falls-most d a) sd n h s);
-        differs = λ s. omega (arith, lines-add (λ p. p .differs) differsOn differs-row d _ (differs-most d a) sd n h s)
+        differs = λ s. omega (arith, lines-add (λ p. p .differs) differsOn differs-row d _ (differs-most d a) sd n h s);
       }
 
   pub in-pool : (k j : ℕ) → k < lineCount d → j < stepCount (lineAt d k) → InPool (stepOf d k j) (sidePool d (side (lineAt d k)))
@@ -205,5 +209,5 @@ module _ (d : List ℕ) (a : AcceptedDay d) where
         within = λ s i. step-within (λ p. p .falls) (changeOn fall) falls-row d _ (falls-most d a) k j s l h i;
         rising = λ s i. omega (arith, side-within (λ p. p .rises) (changeOn rise) rises-row d _ (rises-most d a) sd s);
         falling = λ s i. omega (arith, side-within (λ p. p .falls) (changeOn fall) falls-row d _ (falls-most d a) sd s);
-        paying = λ s i. omega (arith, side-within (λ p. p .plus) paidIn plus-row d _ (paid-most d a) sd s)
+        paying = λ s i. omega (arith, side-within (λ p. p .plus) paidIn plus-row d _ (paid-most d a) sd s);
       }

@@ -52,7 +52,7 @@ poolTo n f =
       minus = five (rowTo n (minusOf f));
       rises = five (rowTo n (risesOf f));
       falls = five (rowTo n (fallsOf f));
-      differs = five (rowTo n (differsOf f))
+      differs = five (rowTo n (differsOf f));
     }
 
 pub pool-more : (n : ℕ) (f : ℕ → SidePool) → poolTo (n + 1) f ≡ poolSum (poolTo n f) (f n)

@@ -1,9 +1,19 @@
 // Pools of a line's steps and of a side's lines, and what a line is paid.
-use day::{line_count, line_of};
-use inputs::{flag_row, price_row, step_of, totals_of, Market};
-use payments::{final_money, initial_money, money_add, pool_add, step_pool, Money, SidePool};
+use day::line_count;
+use day::line_of;
+use inputs::Market;
+use inputs::flag_row;
+use inputs::price_row;
+use inputs::step_of;
+use inputs::totals_of;
+use payments::Money;
+use payments::SidePool;
+use payments::final_money;
+use payments::initial_money;
+use payments::money_add;
+use payments::pool_add;
+use payments::step_pool;
 use rules::Step;
-
 ghost use mathlib.Core.Path.{_≡_};
 ghost use Prim.Native.Nat.{_<_};
 ghost use Rattle.rules.specs.Layout.{lineCount, lineAt, side};
@@ -51,7 +61,14 @@ fn line_pool(day: &[u8], k: usize, m: Market) -> SidePool
     let mut j = 0;
     while j < n {
         let upper = ends[j];
-        let x = step_of(m, t, lower, upper, price_row(&prices, j), flag_row(flags, j));
+        let x = step_of(
+            m,
+            t,
+            lower,
+            upper,
+            price_row(&prices, j),
+            flag_row(flags, j),
+        );
         pool = pool_add(pool, step_pool(x));
         lower = upper;
         j += 1;
@@ -130,7 +147,14 @@ pub fn line_paid(day: &[u8], k: usize, m: Market, p: SidePool) -> LinePaid
     let mut j = 0;
     while j < n {
         let upper = ends[j];
-        let x = step_of(m, t, lower, upper, price_row(&prices, j), flag_row(flags, j));
+        let x = step_of(
+            m,
+            t,
+            lower,
+            upper,
+            price_row(&prices, j),
+            flag_row(flags, j),
+        );
         money = money_add(money, step_money(x, claw, p));
         lower = upper;
         j += 1;

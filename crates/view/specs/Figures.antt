@@ -7,12 +7,12 @@ use mathlib.Core.Bool.{cond}
 use lib.ListN.{getD}
 use lib.Dec.{eqb, leb}
 use borrow.Author.Tests.{eq-eqb, ne-eqb, le-leb, lt-leb}
-use Rattle.rules.specs.Fold.{refuse, _orElse_, five}
+use Rattle.rules.specs.Fold.{five}
 use Rattle.rules.specs.Layout.{lineCount, lineAt, side, clawback}
-use Rattle.rules.specs.Steps.{stepCount, upperEnd, lowerEnd, width}
+use Rattle.rules.specs.Steps.{stepCount, width}
 use Rattle.rules.specs.Refusals.{dayFault, viewFault}
 use Rattle.rules.specs.Matching.{tenMatches}
-use Rattle.rules.specs.Payments.{stepOf, operatingOn, pricingOn, actualOn, aginoOn, msiqOn, onStep, initial, revised, modified, stepFinal}
+use Rattle.rules.specs.Payments.{stepOf, operatingOn, pricingOn, actualOn, aginoOn, msiqOn, onStep, initial, revised, modified}
 use Rattle.rules.specs.Viewing.{finalIn, viewOf, viewRefused, viewAnswer}
 use Rattle.rules.specs.declared.Step.{Step}
 use Rattle.rules.specs.declared.View.{View}
@@ -40,7 +40,7 @@ viewFrom x claw p =
       initial = five (initial x);
       revised = five (revised x);
       modified = five (modified x);
-      finals = five (finalOn x claw p)
+      finals = five (finalOn x claw p);
     }
 
 -- of step j of line k they are the view's
@@ -64,7 +64,7 @@ view-is d k j p h =
       initial = viewOf d k j .initial;
       revised = viewOf d k j .revised;
       modified = viewOf d k j .modified;
-      finals = e i
+      finals = e i;
     }
 
 -- the answer, refusal by refusal

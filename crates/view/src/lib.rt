@@ -1,12 +1,27 @@
 // The step view: every figure of one step of a day (document 01, "Totals and book").
-use day::{day_number, line_count, line_of};
-use inputs::{flag_row, market_of, price_row, step_of, totals_of};
+use day::day_number;
+use day::line_count;
+use day::line_of;
+use inputs::flag_row;
+use inputs::market_of;
+use inputs::price_row;
+use inputs::step_of;
+use inputs::totals_of;
 use matching::ten_matches;
-use payments::{finals, initial, modified, revised, SidePool};
+use payments::SidePool;
+use payments::finals;
+use payments::initial;
+use payments::modified;
+use payments::revised;
 use pools::pool_for;
-use quantities::{actual_on, agino_on, constrained_on, msiq_on, operating_on, pricing_on};
-use rules::{Step, View};
-
+use quantities::actual_on;
+use quantities::agino_on;
+use quantities::constrained_on;
+use quantities::msiq_on;
+use quantities::operating_on;
+use quantities::pricing_on;
+use rules::Step;
+use rules::View;
 ghost use mathlib.Core.Path.{_≡_};
 ghost use Prim.Native.Nat.{_≤_, _<_};
 ghost use mathlib.Core.List.{_∷_};
@@ -120,7 +135,14 @@ pub fn view(day: &[u8], line: usize, step: usize) -> View
     let flags = cut.flags;
     let m = market_of(day);
     let t = totals_of(part);
-    let x = step_of(m, t, lower_end(&ends, step), ends[step], price_row(&prices, step), flag_row(flags, step));
+    let x = step_of(
+        m,
+        t,
+        lower_end(&ends, step),
+        ends[step],
+        price_row(&prices, step),
+        flag_row(flags, step),
+    );
     let p = pool_for(day, m, x.side);
     figures(x, m.clawback, p)
 }

@@ -1,7 +1,6 @@
 -- `day::header_number` meets its contract.
 use mathlib.Core.Path.{_∙_}
 use borrow.Author.Needs.{needs}
-use Rattle.rules.specs.Fold.{before}
 use Rattle.day.proofs.Laws.{header-short, header-none, header-many, header-market, header-lines, header-word, header-length, header-good}
 use Rattle.day.proofs.header_number.Statement.{statement}
 use Rattle.day.proofs.header_number.Tie as tie

@@ -4,7 +4,7 @@ use mathlib.Core.Path.{_≡_, refl}
 use denote.Ref.{now}
 use native.Mathlib.Omega.{arith}
 use borrow.Author.Needs.{needs}
-use Rattle.rules.specs.Fold.{first, before}
+use Rattle.rules.specs.Fold.{first}
 use Rattle.rules.specs.Refusals.{pairFault}
 use Rattle.laws.specs.Folds.{fold-begins, fold-goes, fold-stops, fold-ends}
 use Rattle.day.proofs.Laws.{pair-is, pair-met, pair-passed, key-is, lent-length}

@@ -1,7 +1,6 @@
 -- `day::line_of` meets its contract.
 use denote.Ref.{now}
 use borrow.Author.Needs.{needs}
-use Rattle.rules.specs.Fold.{before}
 use Rattle.day.proofs.Laws.{lent-line}
 use Rattle.day.proofs.line_of.Statement.{statement}
 use Rattle.day.proofs.line_of.Tie as tie

@@ -3,7 +3,6 @@ use mathlib.Core.Path.{_∙_}
 use denote.Ref.{now}
 use native.Mathlib.Omega.{arith}
 use borrow.Author.Needs.{needs}
-use Rattle.rules.specs.Fold.{before}
 use Rattle.day.proofs.Laws.{lent-line, part-refused, part-lent, part-bounds}
 use Rattle.day.proofs.line_part.Statement.{statement}
 use Rattle.day.proofs.line_part.Tie as tie

@@ -1,7 +1,6 @@
 -- `day::line_part_number` meets its contract.
 use native.Mathlib.Omega.{arith}
 use borrow.Author.Needs.{needs}
-use Rattle.rules.specs.Fold.{before}
 use Rattle.day.proofs.Laws.{part-header, the-header, part-beyond, part-within}
 use Rattle.day.proofs.line_part_number.Statement.{statement}
 use Rattle.day.proofs.line_part_number.Tie as tie

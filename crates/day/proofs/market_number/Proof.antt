@@ -1,6 +1,5 @@
 -- `day::market_number` meets its contract.
 use borrow.Author.Needs.{needs}
-use Rattle.rules.specs.Fold.{before}
 use Rattle.day.proofs.Laws.{market-prices, market-cap, market-marks, market-switch, market-good}
 use Rattle.day.proofs.market_number.Statement.{statement}
 use Rattle.day.proofs.market_number.Tie as tie

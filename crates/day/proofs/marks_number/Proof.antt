@@ -3,7 +3,7 @@ use Prim.Native.Nat.{_-_, _≤_}
 use mathlib.Core.Path.{_≡_, refl}
 use native.Mathlib.Omega.{arith}
 use borrow.Author.Needs.{needs}
-use Rattle.rules.specs.Fold.{first, before}
+use Rattle.rules.specs.Fold.{first}
 use Rattle.rules.specs.Refusals.{markFault}
 use Rattle.laws.specs.Folds.{fold-begins, fold-goes, fold-stops, fold-ends}
 use Rattle.day.proofs.Laws.{mark-above, mark-within}

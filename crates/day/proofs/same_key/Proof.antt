@@ -1,6 +1,5 @@
 -- `day::same_key` meets its contract.
 use borrow.Author.Needs.{needs}
-use Rattle.rules.specs.Fold.{before}
 use Rattle.day.proofs.Laws.{other-participant, other-point, other-side, same-all}
 use Rattle.day.proofs.same_key.Statement.{statement}
 use Rattle.day.proofs.same_key.Tie as tie

@@ -1,7 +1,6 @@
 -- `inputs::capped` meets its contract.
 use borrow.Author.Needs.{needs}
 use borrow.Author.Tests.{eq-eqb, ne-eqb}
-use Rattle.rules.specs.Fold.{before}
 use Rattle.inputs.specs.Inputs.{cappedAt}
 use Rattle.inputs.proofs.capped.Statement.{statement}
 use Rattle.inputs.proofs.capped.Tie as tie

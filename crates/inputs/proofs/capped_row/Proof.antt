@@ -1,7 +1,5 @@
 -- `inputs::capped_row` meets its contract.
 use borrow.Author.Needs.{needs}
-use Rattle.rules.specs.Fold.{before}
-use Rattle.rules.specs.Steps.{capped}
 use Rattle.laws.specs.Folds.{same-five}
 use Rattle.inputs.specs.Inputs.{cappedIn}
 use Rattle.inputs.proofs.capped_row.Statement.{statement}

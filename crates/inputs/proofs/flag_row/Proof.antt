@@ -1,6 +1,5 @@
 -- `inputs::flag_row` meets its contract.
 use borrow.Author.Needs.{needs}
-use Rattle.rules.specs.Fold.{before}
 use Rattle.laws.specs.Folds.{same-five}
 use Rattle.inputs.specs.Inputs.{flagIn}
 use Rattle.inputs.proofs.flag_row.Statement.{statement}

@@ -1,6 +1,5 @@
 -- `inputs::market_of` meets its contract.
 use borrow.Author.Needs.{needs}
-use Rattle.rules.specs.Fold.{before}
 use Rattle.inputs.proofs.Laws.{market-is}
 use Rattle.inputs.proofs.market_of.Statement.{statement}
 use Rattle.inputs.proofs.market_of.Tie as tie

@@ -4,7 +4,6 @@ use denote.Ref.{now}
 use borrow.Author.Needs.{needs}
 use native.Mathlib.Nat.{add-zero}
 use Rattle.rules.specs.Layout.{word}
-use Rattle.rules.specs.Fold.{before, at}
 use Rattle.laws.specs.Folds.{same-five}
 use Rattle.inputs.specs.Inputs.{wordIn}
 use Rattle.inputs.proofs.market_row.Statement.{statement}

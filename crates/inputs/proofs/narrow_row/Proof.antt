@@ -1,7 +1,6 @@
 -- `inputs::narrow_row` meets its contract.
 use native.Mathlib.Omega.{arith}
 use borrow.Author.Needs.{needs}
-use Rattle.rules.specs.Fold.{before}
 use Rattle.laws.specs.Folds.{same-five}
 use Rattle.inputs.proofs.narrow_row.Statement.{statement}
 use Rattle.inputs.proofs.narrow_row.Tie as tie

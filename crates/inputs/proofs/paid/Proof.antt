@@ -1,6 +1,5 @@
 -- `inputs::paid` meets its contract.
 use borrow.Author.Tests.{le-leb, lt-leb, eq-eqb, ne-eqb}
-use Rattle.rules.specs.Fold.{before}
 use Rattle.inputs.specs.Inputs.{paidOn}
 use Rattle.inputs.proofs.paid.Statement.{statement}
 use Rattle.inputs.proofs.paid.Tie as tie

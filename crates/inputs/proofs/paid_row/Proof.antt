@@ -1,6 +1,5 @@
 -- `inputs::paid_row` meets its contract.
 use borrow.Author.Needs.{needs}
-use Rattle.rules.specs.Steps.{paid}
 use Rattle.laws.specs.Folds.{same-five}
 use Rattle.inputs.specs.Inputs.{paidIn}
 use Rattle.inputs.proofs.paid_row.Statement.{statement}

@@ -5,8 +5,6 @@ use lib.ListN.{getD}
 use denote.Ref.{now}
 use borrow.Author.Needs.{needs}
 use native.Mathlib.Nat.{zero-add}
-use Rattle.rules.specs.Cutting.{prices}
-use Rattle.rules.specs.Fold.{before}
 use Rattle.laws.specs.Folds.{same-five}
 use Rattle.inputs.specs.Inputs.{priceIn}
 use Rattle.inputs.proofs.price_row.Statement.{statement}

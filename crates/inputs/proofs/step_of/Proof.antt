@@ -1,6 +1,5 @@
 -- `inputs::step_of` meets its contract.
 use borrow.Author.Needs.{needs}
-use Rattle.rules.specs.Fold.{before}
 use Rattle.inputs.proofs.Laws.{step-from-is}
 use Rattle.inputs.proofs.step_of.Statement.{statement}
 use Rattle.inputs.proofs.step_of.Tie as tie

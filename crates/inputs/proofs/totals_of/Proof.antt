@@ -2,7 +2,6 @@
 use mathlib.Core.Path.{_∙_}
 use denote.Ref.{now}
 use borrow.Author.Needs.{needs}
-use Rattle.rules.specs.Fold.{before}
 use Rattle.inputs.proofs.Laws.{pricing-narrow, operating-narrow, actual-is, actual-narrow, totals-are}
 use Rattle.inputs.proofs.totals_of.Statement.{statement}
 use Rattle.inputs.proofs.totals_of.Tie as tie

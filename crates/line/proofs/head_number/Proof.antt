@@ -1,6 +1,5 @@
 -- `line::head_number` meets its contract.
 use borrow.Author.Needs.{needs}
-use Rattle.rules.specs.Fold.{before}
 use Rattle.line.proofs.Laws.{head-side, head-accreditation, head-none}
 use Rattle.line.proofs.head_number.Statement.{statement}
 use Rattle.line.proofs.head_number.Tie as tie

@@ -1,7 +1,6 @@
 -- `line::line_number` meets its contract.
 use mathlib.Core.Path.{_∙_}
 use borrow.Author.Needs.{needs}
-use Rattle.rules.specs.Fold.{before}
 use Rattle.line.proofs.Laws.{one-line}
 use Rattle.line.proofs.line_number.Statement.{statement}
 use Rattle.line.proofs.line_number.Tie as tie

@@ -3,7 +3,7 @@ use Prim.Native.Nat.{_-_, _≤_}
 use mathlib.Core.Path.{_≡_, refl}
 use native.Mathlib.Omega.{arith}
 use borrow.Author.Needs.{needs}
-use Rattle.rules.specs.Fold.{first, before, at}
+use Rattle.rules.specs.Fold.{first, at}
 use Rattle.rules.specs.Refusals.{breakFault, bidFault}
 use Rattle.laws.specs.Folds.{fold-begins, fold-goes, fold-stops, fold-ends, all-passed}
 use Rattle.line.specs.Parts.{lineFrom}

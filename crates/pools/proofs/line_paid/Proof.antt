@@ -6,7 +6,6 @@ use native.Mathlib.Omega.{arith}
 use borrow.Author.Needs.{needs}
 use Rattle.rules.specs.Cutting.{prices, flags}
 use Rattle.rules.specs.Layout.{lineAt}
-use Rattle.rules.specs.Fold.{before}
 use Rattle.rules.specs.Steps.{ends, lowerEnd}
 use Rattle.pools.specs.Sums.{moneyTo}
 use Rattle.pools.specs.Lines.{stepMoney, no-money}

@@ -1,7 +1,6 @@
 -- `pools::pool_for` meets its contract.
 use denote.Ref.{now}
 use borrow.Author.Needs.{needs}
-use Rattle.rules.specs.Fold.{before}
 use Rattle.pools.proofs.Laws.{pool-off, pool-on, market-claw}
 use Rattle.pools.proofs.pool_for.Statement.{statement}
 use Rattle.pools.proofs.pool_for.Tie as tie

@@ -2,7 +2,6 @@
 use denote.Ref.{now}
 use native.Mathlib.Omega.{arith}
 use borrow.Author.Needs.{needs}
-use Rattle.rules.specs.Fold.{before}
 use Rattle.pools.proofs.Laws.{line-lies, lent-length, part-other, part-own}
 use Rattle.pools.proofs.side_part.Statement.{statement}
 use Rattle.pools.proofs.side_part.Tie as tie

@@ -4,7 +4,6 @@ use mathlib.Core.Path.{_≡_, _∙_}
 use denote.Ref.{now}
 use native.Mathlib.Omega.{arith}
 use borrow.Author.Needs.{needs}
-use Rattle.rules.specs.Fold.{before}
 use Rattle.pools.specs.Sums.{poolTo}
 use Rattle.pools.specs.Sides.{sidePart}
 use Rattle.pools.specs.Lines.{no-pool}

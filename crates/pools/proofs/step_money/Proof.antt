@@ -1,6 +1,5 @@
 -- `pools::step_money` meets its contract.
 use borrow.Author.Needs.{needs}
-use Rattle.rules.specs.Fold.{before}
 use Rattle.pools.proofs.Laws.{money-off}
 use Rattle.pools.proofs.step_money.Statement.{statement}
 use Rattle.pools.proofs.step_money.Tie as tie

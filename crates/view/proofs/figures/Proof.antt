@@ -1,7 +1,5 @@
 -- `view::figures` meets its contract.
 use borrow.Author.Needs.{needs}
-use Rattle.rules.specs.Payments.{initial, revised, modified}
-use Rattle.rules.specs.Fold.{before}
 use Rattle.view.proofs.Laws.{figures-are}
 use Rattle.view.proofs.figures.Statement.{statement}
 use Rattle.view.proofs.figures.Tie as tie

@@ -1,8 +1,6 @@
 -- `view::final_payments` meets its contract.
 use mathlib.Core.Path.{sym, _∙_}
 use borrow.Author.Needs.{needs}
-use Rattle.rules.specs.Payments.{initial}
-use Rattle.rules.specs.Fold.{before}
 use Rattle.view.proofs.Laws.{finals-off}
 use Rattle.view.proofs.final_payments.Statement.{statement}
 use Rattle.view.proofs.final_payments.Tie as tie

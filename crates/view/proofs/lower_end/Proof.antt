@@ -1,8 +1,6 @@
 -- `view::lower_end` meets its contract.
 use denote.Ref.{now}
 use borrow.Author.Needs.{needs}
-use Rattle.rules.specs.Fold.{before}
-use Rattle.rules.specs.Steps.{ends}
 use Rattle.view.specs.Figures.{lower-there}
 use Rattle.view.proofs.lower_end.Statement.{statement}
 use Rattle.view.proofs.lower_end.Tie as tie

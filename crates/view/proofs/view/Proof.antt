@@ -3,10 +3,7 @@ use mathlib.Core.Path.{refl, sym, _∙_}
 use denote.Ref.{now}
 use native.Mathlib.Omega.{arith}
 use borrow.Author.Needs.{needs}
-use Rattle.rules.specs.Figures.{figures}
-use Rattle.rules.specs.Fold.{before}
 use Rattle.laws.specs.Accepted.{accepted-day}
-use Rattle.inputs.specs.Paid.{line}
 use Rattle.pools.proofs.Laws.{line-lies, lent-length, lent-accepted, lent-line, count-is, count-few, step-built, step-sized, step-payable, market-claw}
 use Rattle.view.specs.Figures.{view-refused, fault-day, fault-line, fault-step, view-whole}
 use Rattle.view.proofs.Laws.{lower-is, pool-there, figures-there}

@@ -3,7 +3,6 @@ use mathlib.Core.Path.{_∙_}
 use denote.Ref.{now}
 use borrow.Author.Needs.{needs}
 use Rattle.rules.specs.Layout.{bidBreak}
-use Rattle.rules.specs.Fold.{before}
 use Rattle.laws.specs.Folds.{before-later, before-first}
 use Rattle.line.proofs.bids.break_before.Statement.{statement}
 use Rattle.line.proofs.bids.break_before.Tie as tie

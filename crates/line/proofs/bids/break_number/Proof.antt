@@ -1,7 +1,6 @@
 -- `line::bids::break_number` meets its contract.
 use mathlib.Core.Path.{sym, _∙_}
 use borrow.Author.Needs.{needs}
-use Rattle.rules.specs.Fold.{before}
 use Rattle.line.proofs.Laws.{break-above, break-low, break-none}
 use Rattle.line.proofs.bids.break_number.Statement.{statement}
 use Rattle.line.proofs.bids.break_number.Tie as tie

@@ -1,6 +1,5 @@
 -- `line::bids::order_number` meets its contract.
 use borrow.Author.Needs.{needs}
-use Rattle.rules.specs.Fold.{before}
 use Rattle.line.proofs.Laws.{order-first, order-bad, order-good}
 use Rattle.line.proofs.bids.order_number.Statement.{statement}
 use Rattle.line.proofs.bids.order_number.Tie as tie

@@ -1,6 +1,5 @@
 -- `line::bids::out_of_order` meets its contract.
 use borrow.Author.Tests.{lt-ltb, le-ltb, eq-eqb, ne-eqb}
-use Rattle.rules.specs.Fold.{before}
 use Rattle.rules.specs.Refusals.{outOfOrder}
 use Rattle.line.proofs.bids.out_of_order.Statement.{statement}
 use Rattle.line.proofs.bids.out_of_order.Tie as tie

@@ -1,7 +1,6 @@
 -- `line::bids::price_number` meets its contract.
 use mathlib.Core.Path.{sym, _∙_}
 use borrow.Author.Needs.{needs}
-use Rattle.rules.specs.Fold.{before}
 use Rattle.line.proofs.Laws.{price-fault-above, price-fault-within}
 use Rattle.line.proofs.bids.price_number.Statement.{statement}
 use Rattle.line.proofs.bids.price_number.Tie as tie

@@ -2,7 +2,7 @@
 use Prim.Native.Nat.{_-_, _≤_}
 use mathlib.Core.Path.{_≡_, refl}
 use borrow.Author.Needs.{needs}
-use Rattle.rules.specs.Fold.{first, before}
+use Rattle.rules.specs.Fold.{first}
 use Rattle.rules.specs.Refusals.{priceFault}
 use Rattle.laws.specs.Folds.{fold-begins, fold-goes, fold-stops, fold-ends}
 use Rattle.line.proofs.bids.prices_number.Statement.{statement}

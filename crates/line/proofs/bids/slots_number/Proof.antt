@@ -1,6 +1,5 @@
 -- `line::bids::slots_number` meets its contract.
 use borrow.Author.Needs.{needs}
-use Rattle.rules.specs.Fold.{before}
 use Rattle.line.proofs.Laws.{slots-stops, slots-passes}
 use Rattle.line.proofs.bids.slots_number.Statement.{statement}
 use Rattle.line.proofs.bids.slots_number.Tie as tie

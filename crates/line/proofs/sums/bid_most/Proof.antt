@@ -2,7 +2,6 @@
 use mathlib.Core.Path.{_∙_}
 use native.Mathlib.Omega.{arith}
 use borrow.Author.Needs.{needs}
-use Rattle.rules.specs.Fold.{before}
 use Rattle.laws.specs.Accepted.{accepted-bid}
 use Rattle.line.proofs.Laws.{last-most}
 use Rattle.line.proofs.sums.bid_most.Statement.{statement}

@@ -1,7 +1,6 @@
 -- `line::sums::effective_actual` meets its contract.
 use mathlib.Core.Path.{_∙_, ap}
 use borrow.Author.Needs.{needs}
-use Rattle.rules.specs.Fold.{before}
 use Rattle.laws.specs.Folds.{same-five}
 use Rattle.line.specs.Parts.{rowSum, lesserAt}
 use Rattle.line.proofs.Laws.{lesser-total}

@@ -1,7 +1,6 @@
 -- `line::sums::greatest_break` meets its contract.
 use native.Mathlib.Omega.{arith}
 use borrow.Author.Needs.{needs}
-use Rattle.rules.specs.Fold.{before}
 use Rattle.laws.specs.Folds.{first-at}
 use Rattle.line.proofs.Laws.{most-five}
 use Rattle.line.proofs.sums.greatest_break.Statement.{statement}

@@ -1,6 +1,5 @@
 -- `line::sums::hedge_number` meets its contract.
 use borrow.Author.Needs.{needs}
-use Rattle.rules.specs.Fold.{before}
 use Rattle.line.proofs.Laws.{hedge-above, hedge-withdrawal, hedge-none, hedge-injection}
 use Rattle.line.proofs.sums.hedge_number.Statement.{statement}
 use Rattle.line.proofs.sums.hedge_number.Tie as tie

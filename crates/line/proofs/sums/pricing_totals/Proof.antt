@@ -2,7 +2,6 @@
 use mathlib.Core.Path.{sym, _∙_}
 use denote.Ref.{now}
 use borrow.Author.Needs.{needs}
-use Rattle.rules.specs.Fold.{before}
 use Rattle.rules.specs.Quantities.{pricingIn, pricingTotal}
 use Rattle.laws.specs.Folds.{sum-five, same-five}
 use Rattle.line.proofs.sums.pricing_totals.Statement.{statement}

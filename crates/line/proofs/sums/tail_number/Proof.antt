@@ -4,7 +4,7 @@ use mathlib.Core.Path.{_∙_, ap}
 use mathlib.Core.List.{List}
 use denote.Ref.{now}
 use borrow.Author.Needs.{needs}
-use Rattle.rules.specs.Fold.{before, five}
+use Rattle.rules.specs.Fold.{five}
 use Rattle.laws.specs.Folds.{part-stops, part-passes}
 use Rattle.line.specs.Parts.{hedgeFault, tailFault, tableTotal}
 use Rattle.line.proofs.Laws.{totals-are}

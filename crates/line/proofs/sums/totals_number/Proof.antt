@@ -4,7 +4,7 @@ use mathlib.Core.Path.{_≡_, refl}
 use native.Mathlib.Omega.{arith}
 use borrow.Author.Needs.{needs}
 use borrow.Author.Tests.{lt-ltb, le-ltb}
-use Rattle.rules.specs.Fold.{first, before}
+use Rattle.rules.specs.Fold.{first}
 use Rattle.laws.specs.Folds.{stops, passes, ends-at, none-at, fold-begins, fold-goes, fold-stops, fold-ends}
 use Rattle.line.specs.Parts.{totalsFault}
 use Rattle.line.proofs.sums.totals_number.Statement.{statement}

@@ -1,6 +1,5 @@
 -- `line::kinds::Price::read` meets its contract.
 use borrow.Author.Needs.{needs}
-use Rattle.rules.specs.Fold.{before}
 use Rattle.line.proofs.Laws.{price-within, price-above}
 use Rattle.line.proofs.kinds.Price.read.Statement.{statement}
 use Rattle.line.proofs.kinds.Price.read.Tie as tie

@@ -1,6 +1,5 @@
 -- `line::kinds::Quantity::read` meets its contract.
 use borrow.Author.Needs.{needs}
-use Rattle.rules.specs.Fold.{before}
 use Rattle.line.proofs.Laws.{quantity-within, quantity-above}
 use Rattle.line.proofs.kinds.Quantity.read.Statement.{statement}
 use Rattle.line.proofs.kinds.Quantity.read.Tie as tie
