@@ -1,0 +1,2 @@
+-- Laws that several answers cite.
+pub mod Laws

@@ -1,0 +1,66 @@
+-- The book's parts as bytes of plain values, and that they are document 01's.
+use Prim.Native.Nat.{ℕ, zero, suc, _+_, _*_, _≤_, _<_}
+use native.Mathlib.Omega.{arith}
+use mathlib.Core.Path.{_≡_, refl, sym, _∙_, ap, ap₂}
+use mathlib.Core.List.{List, [], _∷_, _++_, append-assoc}
+use lib.ListN.{length, take, drop, length-append, length-take}
+use lib.Seq.{sets, sets-eq, drop-at, length-take-le, length-sets}
+use lib.IntN.{ℤ, pos}
+use Rattle.rules.specs.Fold.{joined, five, atZ}
+use Rattle.rules.specs.Layout.{lineCount, lineAt, participant, point, side}
+use Rattle.rules.specs.Steps.{stepCount}
+use Rattle.rules.specs.Refusals.{bookLength}
+use Rattle.rules.specs.Totals.{linePayment, total, totals, adjusted, adjustedTotal}
+use Rattle.rules.specs.Book.{wordBytes, signedBytes, bookHeader, totalPair, paymentBytes, lineEntry, bookOf}
+use Rattle.laws.specs.Folds.{at-five, joined-length}
+use Rattle.bookbytes.specs.Framing.{header-length, pairs-length, entry-length}
+
+-- four words, as at the front of the book and of each of its lines
+abbrev pub fourWords : ℕ → ℕ → ℕ → ℕ → List ℕ
+fourWords a b c d = wordBytes a ++ wordBytes b ++ wordBytes c ++ wordBytes d
+
+unfoldable pub moneyBytes : (ℕ → ℤ) → ℕ → List ℕ
+moneyBytes v s = signedBytes (v s)
+
+unfoldable pub pairBytes : (ℕ → ℤ) → (ℕ → ℤ) → ℕ → List ℕ
+pairBytes t a s = signedBytes (t s) ++ signedBytes (a s)
+
+-- "per line participant, point, side, step count and five signed 64-bit payments"
+unfoldable pub entryOf : ℕ → ℕ → ℕ → ℕ → (ℕ → ℤ) → List ℕ
+entryOf p q sd n v = fourWords p q sd n ++ joined 5 (moneyBytes v)
+
+-- "words n, 16, 96, 96 + 56n; five pairs t, a as signed 64-bit"
+unfoldable pub frontOf : ℕ → (ℕ → ℤ) → (ℕ → ℤ) → List ℕ
+frontOf n t a = fourWords n 16 96 (bookLength n) ++ joined 5 (pairBytes t a)
+
+-- of a day: line k's part, and the front
+pub entry-is : (d : List ℕ) (k : ℕ) {p q sd n : ℕ} {v : List ℤ}
+    → p ≡ participant (lineAt d k) → q ≡ point (lineAt d k) → sd ≡ side (lineAt d k) → n ≡ stepCount (lineAt d k) → v ≡ five (λ s. linePayment d s k)
+    → entryOf p q sd n (atZ v) ≡ lineEntry d k
+unfolding entryOf lineEntry moneyBytes paymentBytes joined
+entry-is d k a b c e f = rw (a, b, c, e, f)
+
+pub front-is : (d : List ℕ) {n : ℕ} {t a : List ℤ} → n ≡ lineCount d → t ≡ five (total d) → a ≡ five (adjusted t)
+    → frontOf n (atZ t) (atZ a) ≡ bookHeader d ++ joined 5 (totalPair d)
+unfolding frontOf bookHeader pairBytes totalPair joined adjustedTotal totals
+front-is d e f g = rw (g, f, e)
+
+-- the lines put from byte 96 on, then what stands before them: the whole book, and the bytes beyond as they were
+pub whole-book : (d b m e : List ℕ) → bookLength (lineCount d) ≤ length b
+    → m ≡ sets b 96 (joined (lineCount d) (lineEntry d)) → e ≡ sets m 0 (bookHeader d ++ joined 5 (totalPair d))
+    → e ≡ bookOf d ++ drop (bookLength (lineCount d)) b
+unfolding bookOf
+whole-book d b m e h me ee =
+    let front = bookHeader d ++ joined 5 (totalPair d) in
+    let lines = joined (lineCount d) (lineEntry d) in
+    let n = lineCount d in
+    let f : length front ≡ 96 = simp (length-append, header-length, pairs-length) in
+    let g : length lines ≡ n * 56 = joined-length n 56 (lineEntry d) (λ k l. entry-length d k) in
+    let me′ : m ≡ take 96 b ++ lines ++ drop (96 + length lines) b = me ∙ sets-eq lines b 96 (omega arith) in
+    let len : length m ≡ length b = ap length me ∙ length-sets b 96 lines in
+    let one : sets m 0 front ≡ take 0 m ++ front ++ drop (0 + length front) m = sets-eq front m 0 (omega arith) in
+    let at : 0 + length front ≡ 96 = omega arith in
+    let split : drop 96 m ≡ lines ++ drop (96 + length lines) b = ap (drop 96) (me′ ∙ append-assoc (take 96 b) lines (drop (96 + length lines) b)) ∙ drop-at (take 96 b) (lines ++ drop (96 + length lines) b) 96 (length-take-le 96 b (omega arith)) in
+    let end : 96 + length lines ≡ bookLength n = omega arith in
+    ee ∙ one ∙ ap (λ (i : ℕ). front ++ drop i m) at ∙ ap (λ (l : List ℕ). front ++ l) split
+    ∙ sym (append-assoc front lines (drop (96 + length lines) b)) ∙ ap (λ (i : ℕ). front ++ lines ++ drop i b) end
