@@ -1,6 +1,7 @@
 //! The files kept under crates: what this program makes for the other implementation's programs to be run on and held to.
 
 use crate::programs::run;
+use crate::K10_REPORT;
 use reference::line_part::line_part;
 use reference::refusal::line_part_number;
 use std::fmt::Write;
@@ -23,6 +24,31 @@ fn day_numbers() {
     for number in 0..=14 {
         let line = number.to_string();
         assert!(of_damaged.lines().any(|l| l == line), "no {number}");
+    }
+}
+
+#[test]
+fn settle() {
+    let day = run(&["k10"], &[]);
+    assert!(kept("settle", "stdin") == day);
+    assert_eq!(kept("settle", "stdout"), K10_REPORT.as_bytes());
+}
+
+/// Days of 1 to 64 lines, valid and damaged, with every refusal that a file can have.
+#[test]
+fn settle_days() {
+    let pack = run(&["days", "1", "240", "mixed"], &[]);
+    assert!(kept("settle_days", "stdin") == pack);
+    let reports = run(&["expect", "settle"], &pack);
+    assert!(kept("settle_days", "stdout") == reports);
+    let reports = String::from_utf8(reports).unwrap();
+    for number in 1..=14 {
+        let line = format!("refused {number}");
+        assert!(reports.lines().any(|l| l == line), "no {line}");
+    }
+    for count in [1, 64] {
+        let line = format!("day {count}");
+        assert!(reports.lines().any(|l| l == line), "no {line}");
     }
 }
 
