@@ -97,7 +97,8 @@ def mk(fn,answers={},inv={},mu={},note='',extra=''):
     body='\n'.join(out)+('\n' if out else '')+(extra+'\n' if False else '')
     spec=f'pub {name} : {{M : Type 1}} → statement M\n{name} =\n    tie.close\n    (tie.spec\n    '+'\n    '.join(sp)+')\n'
     full=(extra+'\n\n' if extra else '')+body+spec
-    toks=set(re.split(r'[\s(){};,@]+',re.sub(r'--[^\n]*','',full).replace('.',' ')))
+    bare=re.sub(r"(?<=[\s(])\.[^\s(){};,]+",'',re.sub(r'--[^\n]*','',full))  # without projections
+    toks=set(re.split(r'[\s(){};,@]+',bare.replace('.',' ')))
     imp={}
     for n,mod in KNOWN.items():
         parts=[q for q in n.split('_') if q]

@@ -4,8 +4,6 @@ use denote.Ref.{now}
 use native.Mathlib.Omega.{arith}
 use borrow.Author.Needs.{needs}
 use Rattle.rules.specs.Layout.{withdrawal}
-use Rattle.rules.specs.Fold.{before}
-use Rattle.rules.specs.Totals.{adjusted}
 use Rattle.settling.proofs.Laws.{all-signable, all-bounded, book-whole}
 use Rattle.settling.proofs.put_book.Statement.{statement}
 use Rattle.settling.proofs.put_book.Tie as tie

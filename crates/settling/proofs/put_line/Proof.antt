@@ -2,8 +2,6 @@
 use denote.Ref.{now}
 use native.Mathlib.Omega.{arith}
 use borrow.Author.Needs.{needs}
-use Rattle.rules.specs.Fold.{before}
-use Rattle.text.specs.Lines.{line-of}
 use Rattle.settling.specs.Lines.{line-pool}
 use Rattle.settling.proofs.Laws.{money-signable, line-put}
 use Rattle.pools.proofs.Laws.{line-lies, lent-length}

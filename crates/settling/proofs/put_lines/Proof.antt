@@ -7,7 +7,7 @@ use native.Mathlib.Omega.{arith}
 use borrow.Author.Needs.{needs}
 use Rattle.rules.specs.Book.{lineEntry}
 use Rattle.rules.specs.Layout.{withdrawal}
-use Rattle.rules.specs.Fold.{joined, before}
+use Rattle.rules.specs.Fold.{joined}
 use Rattle.rules.specs.Totals.{total}
 use Rattle.text.specs.Put.{Written, row-none}
 use Rattle.pools.specs.Sums.{moneyTo}

@@ -3,7 +3,6 @@ use mathlib.Core.Path.{sym, _∙_}
 use denote.Ref.{now}
 use native.Mathlib.Omega.{arith}
 use borrow.Author.Needs.{needs}
-use Rattle.rules.specs.Fold.{before}
 use Rattle.laws.specs.Accepted.{accepted-day}
 use Rattle.settling.specs.Lines.{day-refused, book-short, book-put}
 use Rattle.settling.proofs.settle.Statement.{statement}
