@@ -7,10 +7,31 @@ use reference::refusal::line_part_number;
 use std::fmt::Write;
 use std::path::Path;
 
+/// A file of the repository.
+fn stored(path: &str) -> Vec<u8> {
+    let root = Path::new(env!("CARGO_MANIFEST_DIR")).join("..");
+    std::fs::read(root.join(path)).unwrap()
+}
+
 /// A file beside a crate's sources.
 fn kept(crate_name: &str, file: &str) -> Vec<u8> {
-    let crates = Path::new(env!("CARGO_MANIFEST_DIR")).join("../crates");
-    std::fs::read(crates.join(crate_name).join(file)).unwrap()
+    stored(&format!("crates/{crate_name}/{file}"))
+}
+
+#[test]
+fn examples() {
+    let made: [(&str, &[&str]); 4] = [
+        ("k10", &["k10"]),
+        ("both-sides", &["day", "37", "valid"]),
+        ("withdrawals", &["day", "53", "valid"]),
+        ("refused", &["day", "100", "damaged"]),
+    ];
+    for (name, arguments) in made {
+        let day = run(arguments, &[]);
+        assert!(stored(&format!("examples/{name}.day")) == day, "{name}");
+        let report = run(&["settle"], &day);
+        assert_eq!(stored(&format!("examples/{name}.report")), report, "{name}");
+    }
 }
 
 #[test]
