@@ -1,0 +1,2 @@
+-- The certificate of real calls.
+pub mod Calls
