@@ -19,7 +19,7 @@ use Rattle.laws.specs.Folds.{refuse-true, refuse-false, orElse-zero, orElse-sto
 use Rattle.laws.specs.Accepted.{accepted-line}
 use Rattle.cutter.specs.Search.{First, step-is}
 use Rattle.cutter.specs.Certificate.{answer-whole}
-use Rattle.cutter.specs.Sweep.{Line, BidRead, Room, bitIf, cursorAt, cursorFor, cursorMoved, stepAfter, sweepFor, sweepMoved, gapOf, nextGap}
+use Rattle.cutter.specs.Sweep.{Line, BidRead, Room, past, bitIf, cursorAt, cursorFor, cursorMoved, stopOf, stepAfter, sweepFor, sweepMoved, gapOf, nextGap}
 use Rattle.cutter.specs.Sweep.{withFlag, wordsMarked, pricesPut}
 use Rattle.cutter.specs.declared.Cursor.{Cursor}
 use Rattle.cutter.specs.declared.Sweep.{Sweep}
@@ -50,23 +50,28 @@ bit-most false = omega arith
 pub bit-one : (t : Bool) {m : ℕ} → m ≡ bitIf t → m ≤ 1
 bit-one t e = let b = bit-most t in omega arith
 
-pub bit-over : (a b : ℕ) {m : ℕ} → m ≡ bitIf (ltb a b) → m ≤ b
-bit-over a b e =
-    elim (decLt a b) [
-      | yes l ↦ let g = bit-lt a b l in omega arith
-      | no l ↦ let g = bit-le a b (omega arith) in omega arith
-    ]
-
 -- the step after an end
-pub after-is : (c : Cursor) (u last : ℕ) {m k : ℕ} → m ≡ bitIf (eqb (c .head) u) → k ≡ bitIf (ltb last (c .at + m)) → c .at ≤ last → (c .at + m) - k ≡ stepAfter c u last
+pub stop-more : (c : Cursor) (last : ℕ) → c .at < last → c .head ≡ stopOf c last
+unfolding stopOf
+stop-more c last l = rw (lt-ltb (c .at) last l)
+
+pub stop-last : (c : Cursor) (last : ℕ) → last ≤ c .at → past ≡ stopOf c last
+unfolding stopOf
+stop-last c last l = rw (le-ltb (c .at) last l)
+
+pub after-is : (c : Cursor) (u last : ℕ) {k m : ℕ} → k ≡ stopOf c last → m ≡ bitIf (eqb k u) → c .at ≤ last → u < past → c .at + m ≡ stepAfter c u last
 unfolding stepAfter
-after-is c u last {m} {k} e f h =
+after-is c u last {k} {m} f e h p =
     let b = bit-most (eqb (c .head) u) in
-    rw (← e)
-    (elim (decLt last (c .at + m)) [
-      | yes l ↦ let g = bit-lt last (c .at + m) l in omega arith
-      | no l ↦ let g = bit-le last (c .at + m) (omega arith) in omega arith
-    ])
+    elim (decLt (c .at) last) [
+      | yes l ↦
+          let g : m ≡ bitIf (eqb (c .head) u) = e ∙ ap (λ (x : ℕ). bitIf (eqb x u)) (f ∙ sym (stop-more c last l)) in
+          omega arith
+      | no l ↦
+          let z = stop-last c last (omega arith) in
+          let g = bit-ne k u (λ x. omega arith) in
+          omega arith
+    ]
 
 pub after-below : (c : Cursor) (u n : ℕ) {r k : ℕ} → r ≡ stepAfter c u (n - 1) → n ≡ k → 0 < k → k ≤ 11 → r < 11
 unfolding stepAfter

@@ -49,6 +49,10 @@ unfoldable pub sweepFor : List ℕ → ℕ → Sweep
 sweepFor w e =
     record { first = cursorFor w 0 e; second = cursorFor w 1 e; third = cursorFor w 2 e; fourth = cursorFor w 3 e; fifth = cursorFor w 4 e }
 
+-- the break at which a cursor moves on, none at the bid's last step
+unfoldable pub stopOf : Cursor → ℕ → ℕ
+stopOf c last = cond (ltb (c .at) last) (c .head) past
+
 -- the moves past the end u
 unfoldable pub stepAfter : Cursor → ℕ → ℕ → ℕ
 stepAfter c u last = min (c .at + bitIf (eqb (c .head) u)) last

@@ -13,11 +13,14 @@ ghost use lib.ListN.{length};
 ghost use lib.Dec.{eqb, ltb};
 ghost use Rattle.rules.specs.Layout.{bidCount, bidBreak, bidPrice};
 ghost use Rattle.rules.specs.Cutting.{cutOf, cutRefused, cutAnswer};
-ghost use Rattle.cutter.specs.Sweep.{Line, BidRead, Within, Limited, Room, Markable, cursorAt, cursorMoved, bitIf, stepAfter, gapOf, nextGap};
+ghost use Rattle.cutter.specs.Sweep.{Line, BidRead, Within, Limited, Room, Markable, past, cursorAt, cursorMoved, bitIf, stopOf, stepAfter, gapOf, nextGap};
 ghost use Rattle.cutter.specs.Sweep.{sweepFor, sweepMoved, withFlag, wordsMarked, pricesPut};
 
 // A gap that no break above an end has.
 const FAR: u32 = 2147483648;
+
+// Above every break.
+const PAST: u32 = 4294967295;
 
 // One bid's place in the sweep.
 pub struct Cursor {
@@ -77,28 +80,27 @@ fn same(a: u32, b: u32) -> usize
     0
 }
 
-// 1 where a is below b, else 0.
-fn below(a: usize, b: usize) -> usize
-    ensures { λ r. ⌜ r ≡ bitIf (ltb a b) ⌝ }
+// The break at which the cursor moves on; PAST at the bid's last step.
+fn stop_of(c: Cursor, last: usize) -> u32
+    ensures { λ r. ⌜ r ≡ stopOf c last ⌝ }
 {
-    if a < b {
-        return 1;
+    if c.at < last {
+        return c.head;
     }
-    0
+    PAST
 }
 
 // The bid step after the end u: the next where the cursor stood at u, but no step past the last.
 fn step_after(c: Cursor, u: u32, last: usize) -> usize
-    requires { ⌜ (c .at ≤ last) × (last ≤ 10) ⌝ }
+    requires { ⌜ (c .at ≤ last) × (last ≤ 10) × (u < past) ⌝ }
     ensures { λ r. ⌜ r ≡ stepAfter c u last ⌝ }
 {
-    let next = c.at + same(c.head, u);
-    next - below(last, next)
+    c.at + same(stop_of(c, last), u)
 }
 
 // The cursor after the end u.
 fn moved(line: &[u8], s: usize, c: Cursor, u: u32) -> Cursor
-    requires { ⌜ BidRead (now line) s × (c .at < bidCount (now line) s) ⌝ }
+    requires { ⌜ BidRead (now line) s × (c .at < bidCount (now line) s) × (u < past) ⌝ }
     ensures { λ r. ⌜ r ≡ cursorMoved (now (line .entry)) s c u ⌝ }
 {
     let at = step_after(c, u, bid_count(line, s) - 1);
@@ -135,7 +137,7 @@ fn start(line: &[u8]) -> Sweep
 
 // After the end u.
 fn passed(line: &[u8], at: Sweep, u: u32) -> Sweep
-    requires { ⌜ Line (now line) × Within (now line) at ⌝ }
+    requires { ⌜ Line (now line) × Within (now line) at × (u < past) ⌝ }
     ensures { λ r. ⌜ r ≡ sweepMoved (now (line .entry)) at u ⌝ }
 {
     Sweep {

@@ -1,9 +1,14 @@
 //! The files kept under crates: what this program makes for the other implementation's programs to be run on and held to.
 
 use crate::programs::run;
+use crate::table1;
 use crate::K10_REPORT;
+use reference::cut::cut;
+use reference::layout::{MOST_STEPS, SIDE};
 use reference::line_part::line_part;
+use reference::pack;
 use reference::refusal::line_part_number;
+use std::collections::BTreeSet;
 use std::fmt::Write;
 use std::path::Path;
 
@@ -71,6 +76,37 @@ fn settle_days() {
         let line = format!("day {count}");
         assert!(reports.lines().any(|l| l == line), "no {line}");
     }
+}
+
+/// Lines of both sides with every count of steps, and every refusal of a line.
+#[test]
+fn cut_lines() {
+    let lines = run(&["lines", "1", "1000"], &[]);
+    assert!(kept("cut_lines", "stdin") == lines);
+    assert!(kept("cut_lines", "stdout") == run(&["expect", "cut"], &lines));
+    let mut counts = BTreeSet::new();
+    let mut numbers = BTreeSet::new();
+    let mut rest = &lines[..];
+    while let Some(line) = pack::read(&mut rest).unwrap() {
+        let answer = cut(&line);
+        match answer.number {
+            0 => counts.insert((line[4 * SIDE], answer.count)),
+            number => numbers.insert(number),
+        };
+    }
+    // A withdrawal has no hedge, so its steps are at most 55.
+    let most = MOST_STEPS as u32;
+    let injections = (1..=most).map(|count| (0, count));
+    let withdrawals = (1..most).map(|count| (1, count));
+    assert!(counts.into_iter().eq(injections.chain(withdrawals)));
+    assert!(numbers.into_iter().eq((6..=13).chain([18])));
+}
+
+/// K1 and K2: FD Table 1's line, through the program.
+#[test]
+fn cut_table1() {
+    assert_eq!(kept("cut", "stdin"), table1::line());
+    assert_eq!(kept("cut", "stdout"), run(&["cut"], &table1::line()));
 }
 
 /// The parts that `line_parts` prints, of its day and of parts of its buffer that are refused as days.

@@ -20,7 +20,7 @@ sub-step-after c = search needs
 
 -- src/lib.rt:105:9
 step-after-requires : tie.Need-step-after-requires
-step-after-requires c κs = (omega (arith, c .bid-count .ensures, c .before .before .pre .1), omega (arith, c .bid-count .ensures, c .before .before .pre .0 .few))
+step-after-requires c κs = (omega (arith, c .bid-count .ensures, c .before .before .pre .1), omega (arith, c .bid-count .ensures, c .before .before .pre .0 .few), c .before .before .pre .2)
 
 -- src/lib.rt:108:15
 bid-break-requires : tie.Need-bid-break-requires

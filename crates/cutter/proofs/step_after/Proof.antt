@@ -1,33 +1,15 @@
 -- `cutter::step_after` meets its contract.
 use native.Mathlib.Omega.{arith}
 use borrow.Author.Needs.{needs}
-use Rattle.cutter.proofs.Moves.{bit-one, bit-over, after-is}
+use Rattle.cutter.proofs.Moves.{bit-one, after-is}
 use Rattle.cutter.proofs.step_after.Statement.{statement}
 use Rattle.cutter.proofs.step_after.Tie as tie
-use Rattle.cutter.proofs.step_after.Reads as reads
-use Rattle.cutter.proofs.step_after.Lts as lts
-use Rattle.cutter.proofs.below.Reads as below-reads
-use Rattle.cutter.proofs.same.Reads as same-reads
 
--- src/lib.rt:96:23
-same-requires : tie.Need-same-requires
-same-requires c κs = search needs
+add-result : tie.Need-add-result
+add-result c = omega (arith, bit-one _ (c .before .same .ensures), c .before .before .before .pre .0, c .before .before .before .pre .1)
 
--- src/lib.rt:96:16
-add-next : tie.Need-add-next
-add-next c = omega (arith, bit-one _ (c .before .same .ensures))
-
--- src/lib.rt:97:12
-below-requires : tie.Need-below-requires
-below-requires c κs = search needs
-
--- src/lib.rt:97:5
-sub-result : tie.Need-sub-result
-sub-result c = bit-over _ _ (c .below .ensures)
-
--- src/lib.rt:92:1
 returns : tie.Need-returns
-returns c = after-is _ _ _ (c .before .before .same .ensures) (c .below .ensures) (c .before .before .before .pre .0)
+returns c = after-is _ _ _ (c .before .before .stop-of .ensures) (c .before .same .ensures) (c .before .before .before .pre .0) (c .before .before .before .pre .2)
 
 pub step-after-spec : {M : Type 1} → statement M
-step-after-spec = tie.close (tie.spec same-requires add-next below-requires sub-result returns)
+step-after-spec = tie.close (tie.spec (λ c κs. search needs) (λ c κs. search needs) add-result returns)

@@ -64,7 +64,7 @@ marked-requires c κs = markable (c .before .before .before .before .before .bef
 
 -- src/lib.rt:248:9
 passed-requires : tie.Need-passed-requires Inv-loop μ-loop
-passed-requires c κs = (c .before .before .before .before .before .before .before .before .before .pre, at-within (c .before .before .before .before .before .before .before .before .before .pre) (c .before .before .before .before .loop .inv) (c .before .before .before .loop-test .taken))
+passed-requires c κs = (c .before .before .before .before .before .before .before .before .before .pre, at-within (c .before .before .before .before .before .before .before .before .before .pre) (c .before .before .before .before .loop .inv) (c .before .before .before .loop-test .taken), omega (arith, end-limit (c .before .before .before .before .before .before .before .before .before .pre) (c .before .before .before .before .loop .inv) (c .before .before .before .loop-test .taken)))
 
 -- src/lib.rt:249:9
 next-gap-requires-2 : tie.Need-next-gap-requires-2 Inv-loop μ-loop

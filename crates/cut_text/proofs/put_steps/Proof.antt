@@ -1,15 +1,15 @@
--- `cut::put_steps` meets its contract.
+-- `cut_text::put_steps` meets its contract.
 use borrow.Author.Needs.{needs}
 use native.Mathlib.Omega.{arith}
 use Prim.Native.Nat.{_+_, _*_, _-_, _≤_}
 use mathlib.Core.Path.{_≡_}
 use lib.ListN.{length}
-use Rattle.cut.proofs.put_steps.Statement.{statement}
-use Rattle.cut.proofs.put_steps.Tie as tie
-use Rattle.cut.proofs.put_steps.Reads as reads
-use Rattle.cut.proofs.put_steps.Lts as lts
-use Rattle.cut.proofs.prices_of.Reads as prices-of-reads
-use Rattle.cut.proofs.put_step.Reads as put-step-reads
+use Rattle.cut_text.proofs.put_steps.Statement.{statement}
+use Rattle.cut_text.proofs.put_steps.Tie as tie
+use Rattle.cut_text.proofs.put_steps.Reads as reads
+use Rattle.cut_text.proofs.put_steps.Lts as lts
+use Rattle.cut_text.proofs.prices_of.Reads as prices-of-reads
+use Rattle.cut_text.proofs.put_step.Reads as put-step-reads
 
 abbrev Inv-loop : tie.InvT-loop
 Inv-loop out₀ at count r p₀ k₀ out p k = (length out ≡ length out₀) × (k ≤ count) × (p ≤ at + 126 * k)
@@ -17,43 +17,33 @@ Inv-loop out₀ at count r p₀ k₀ out p k = (length out ≡ length out₀) ×
 abbrev μ-loop : tie.MeasureT-loop
 μ-loop out₀ at count r p₀ k₀ out p k = count - k
 
--- src/main.rt:64:5
 loop-holds : tie.Need-loop-holds Inv-loop μ-loop
 loop-holds c = search needs
 
--- src/main.rt:65:30
 mul-put-step : tie.Need-mul-put-step Inv-loop μ-loop
 mul-put-step c = omega arith
 
--- src/main.rt:65:30
 element-copy-out-put-step : tie.Need-element-copy-out-put-step Inv-loop μ-loop
 element-copy-out-put-step c = omega arith
 
--- src/main.rt:65:41
 prices-of-requires : tie.Need-prices-of-requires Inv-loop μ-loop
 prices-of-requires c κs = search needs
 
--- src/main.rt:65:9
 put-step-requires : tie.Need-put-step-requires Inv-loop μ-loop
 put-step-requires c κs = search needs
 
--- src/main.rt:66:9
 add-k : tie.Need-add-k Inv-loop μ-loop
 add-k c = omega arith
 
--- src/main.rt:64:5
 loop-less : tie.Need-loop-less Inv-loop μ-loop
 loop-less c = omega arith
 
--- src/main.rt:64:5
 loop-again : tie.Need-loop-again Inv-loop μ-loop
 loop-again c = search needs
 
--- src/main.rt:58:1
 same-length : tie.Need-same-length Inv-loop μ-loop
 same-length c = search needs
 
--- src/main.rt:58:1
 returns : tie.Need-returns Inv-loop μ-loop
 returns c = search needs
 

@@ -1,0 +1,8 @@
+//! Links target/staticlib/libcapi.a, which `rt staticlib capi` writes.
+
+fn main() {
+    let folder = concat!(env!("CARGO_MANIFEST_DIR"), "/../target/staticlib");
+    println!("cargo:rustc-link-search=native={folder}");
+    println!("cargo:rustc-link-lib=static=capi");
+    println!("cargo:rerun-if-changed={folder}/libcapi.a");
+}

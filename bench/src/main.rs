@@ -1,0 +1,152 @@
+//! Times the proved cutter beside the reference's and beside sorting, on the same lines in one run.
+
+mod proved;
+mod sorted;
+
+use reference::cut::Cut;
+use reference::generate::line_with_steps;
+use reference::layout::{Line, Side, MOST_STEPS, SCHEDULES};
+use reference::refusal::cut_number;
+use std::hint::black_box;
+use std::process::ExitCode;
+use std::time::Instant;
+
+const USAGE: &str = "usage: bench                                    times
+       bench pass CUTTER SIDE STEPS TIMES      cuts the lines of a kind so many times over, for a count of instructions
+CUTTER: proved, reference, sorted, checked (the reference's refusals alone); SIDE: INJ, WDR";
+
+type Cutter = fn(&[u8], &mut Cut);
+
+const CUTTERS: [(&str, Cutter); 4] = [
+    ("proved", proved::cut),
+    ("reference", reference_cut),
+    ("sorted", sorted::cut),
+    ("checked", checked),
+];
+
+/// Side and steps of each kind of line. A withdrawal has no hedge, so at most 55 steps.
+const KINDS: [(&str, usize); 6] = [
+    ("INJ", 1),
+    ("INJ", 14),
+    ("INJ", 56),
+    ("WDR", 1),
+    ("WDR", 14),
+    ("WDR", 55),
+];
+
+/// Lines of a kind, so many that no branch is foreseen by heart.
+const LINES: usize = 256;
+const ROUNDS: usize = 201;
+
+#[inline(never)]
+fn reference_cut(line: &[u8], answer: &mut Cut) {
+    *answer = reference::cut::cut(line);
+}
+
+#[inline(never)]
+fn checked(line: &[u8], answer: &mut Cut) {
+    answer.number = cut_number(line);
+}
+
+fn main() -> ExitCode {
+    let arguments: Vec<String> = std::env::args().skip(1).collect();
+    let arguments: Vec<&str> = arguments.iter().map(String::as_str).collect();
+    match *arguments {
+        [] => times(),
+        ["pass", cutter, side, steps, times] => {
+            let cutter = CUTTERS.iter().find(|(name, _)| *name == cutter);
+            let (Some((_, cutter)), Ok(steps), Ok(times)) = (cutter, steps.parse(), times.parse())
+            else {
+                eprintln!("{USAGE}");
+                return ExitCode::from(2);
+            };
+            let lines = lines_of(side, steps);
+            (0..times).for_each(|_| pass(*cutter, &lines));
+        }
+        _ => {
+            eprintln!("{USAGE}");
+            return ExitCode::from(2);
+        }
+    }
+    ExitCode::SUCCESS
+}
+
+fn empty() -> Cut {
+    Cut {
+        number: 0,
+        count: 0,
+        ends: [0; MOST_STEPS],
+        prices: [[0; MOST_STEPS]; SCHEDULES],
+        flags: [0; SCHEDULES],
+        missing: [0; SCHEDULES],
+    }
+}
+
+/// Generated lines of a kind.
+fn lines_of(side: &str, steps: usize) -> Vec<Vec<u8>> {
+    let wanted = match side {
+        "INJ" => Side::Injection,
+        _ => Side::Withdrawal,
+    };
+    let of_side = |line: &Vec<u8>| Line::new(line).is_some_and(|line| line.side() == wanted);
+    let lines = (0..).map(|seed| line_with_steps(seed, steps));
+    lines.filter(of_side).take(LINES).collect()
+}
+
+fn pass(cutter: Cutter, lines: &[Vec<u8>]) {
+    let mut answer = empty();
+    for line in lines {
+        cutter(black_box(line), &mut answer);
+        black_box(&answer);
+    }
+}
+
+/// The three cutters answer alike on every line, whatever stood in the answer before.
+fn compare(lines: &[Vec<u8>], steps: usize) {
+    for line in lines {
+        let expected = reference::cut::cut(line);
+        assert_eq!(expected.count as usize, steps);
+        for (name, cutter) in &CUTTERS[..3] {
+            let mut answer = empty();
+            answer.ends = [u32::MAX; MOST_STEPS];
+            answer.prices = [[u32::MAX; MOST_STEPS]; SCHEDULES];
+            answer.flags = [u64::MAX; SCHEDULES];
+            cutter(line, &mut answer);
+            assert_eq!(answer, expected, "{name}");
+        }
+    }
+}
+
+fn median(values: &mut [f64]) -> f64 {
+    values.sort_unstable_by(f64::total_cmp);
+    values[values.len() / 2]
+}
+
+/// Each round times one pass of each cutter, beginning with another one each time.
+fn times() {
+    println!("| Line | proved ns | reference ns | sorted ns | refusals alone ns | proved / reference | proved / sorted |");
+    println!("|---|---|---|---|---|---|---|");
+    for (side, steps) in KINDS {
+        let lines = lines_of(side, steps);
+        compare(&lines, steps);
+        let mut taken: [Vec<f64>; 4] = Default::default();
+        for round in 0..ROUNDS {
+            for turn in 0..CUTTERS.len() {
+                let which = (round + turn) % CUTTERS.len();
+                let start = Instant::now();
+                pass(CUTTERS[which].1, &lines);
+                taken[which].push(start.elapsed().as_nanos() as f64 / LINES as f64);
+            }
+        }
+        let ratio = |other: usize| {
+            let pairs = taken[0].iter().zip(&taken[other]);
+            median(&mut pairs.map(|(ours, theirs)| ours / theirs).collect::<Vec<f64>>())
+        };
+        let ratios = [ratio(1), ratio(2)];
+        let ns = taken.map(|mut values| median(&mut values));
+        println!(
+            "| {side} {steps} | {:.0} | {:.0} | {:.0} | {:.0} | {:.2} | {:.2} |",
+            ns[0], ns[1], ns[2], ns[3], ratios[0], ratios[1]
+        );
+    }
+}

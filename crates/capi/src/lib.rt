@@ -1,0 +1,2 @@
+// The entry points for programs in C and other languages; include/mewikofu.h declares them.
+mod cutting;
