@@ -1,0 +1,2 @@
+-- The line part by place.
+pub mod Parts
