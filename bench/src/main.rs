@@ -1,5 +1,6 @@
-//! Times the proved cutter beside the reference's and beside sorting, on the same lines in one run.
+//! Times the proved cutter and settling beside the reference's, on the same lines and days in one run.
 
+mod days;
 mod proved;
 mod sorted;
 
@@ -13,7 +14,8 @@ use std::time::Instant;
 
 const USAGE: &str = "usage: bench                                    times
        bench pass CUTTER SIDE STEPS TIMES      cuts the lines of a kind so many times over, for a count of instructions
-CUTTER: proved, reference, sorted, checked (the reference's refusals alone); SIDE: INJ, WDR";
+       bench settle SETTLER LINES CLAWBACK TIMES  settles the days of a kind so many times over, likewise
+CUTTER: proved, reference, sorted, checked (the reference's refusals alone); SIDE: INJ, WDR; SETTLER: proved, reference; CLAWBACK: 0, 1";
 
 type Cutter = fn(&[u8], &mut Cut);
 
@@ -52,7 +54,22 @@ fn main() -> ExitCode {
     let arguments: Vec<String> = std::env::args().skip(1).collect();
     let arguments: Vec<&str> = arguments.iter().map(String::as_str).collect();
     match *arguments {
-        [] => times(),
+        [] => {
+            times();
+            println!();
+            days::times();
+        }
+        ["settle", settler, lines, clawback, times] => {
+            let settler = days::SETTLERS.iter().find(|(name, _)| *name == settler);
+            let (Some((_, settler)), Ok(lines), Ok(clawback), Ok(times)) =
+                (settler, lines.parse(), clawback.parse(), times.parse())
+            else {
+                eprintln!("{USAGE}");
+                return ExitCode::from(2);
+            };
+            let days = days::days(lines, clawback);
+            (0..times).for_each(|_| days::pass(*settler, &days));
+        }
         ["pass", cutter, side, steps, times] => {
             let cutter = CUTTERS.iter().find(|(name, _)| *name == cutter);
             let (Some((_, cutter)), Ok(steps), Ok(times)) = (cutter, steps.parse(), times.parse())

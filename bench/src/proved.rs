@@ -1,4 +1,4 @@
-//! The proved cutter, through include/mewikofu.h.
+//! The proved cutter and settling, through include/mewikofu.h.
 
 use reference::cut::Cut;
 use reference::layout::{MOST_STEPS, SCHEDULES};
@@ -13,6 +13,14 @@ extern "C" {
         flags: *mut [u64; SCHEDULES],
         missing: *mut [u32; SCHEDULES],
     ) -> u32;
+    fn mewikofu_settle(day: *const u8, length: usize, book: *mut u8, room: usize) -> u32;
+}
+
+/// Settles a day into a book.
+#[inline(never)]
+pub fn settle(day: &[u8], book: &mut [u8]) -> u32 {
+    // SAFETY: both lengths are those of the slices, which do not overlap.
+    unsafe { mewikofu_settle(day.as_ptr(), day.len(), book.as_mut_ptr(), book.len()) }
 }
 
 /// Cuts a line into an answer.

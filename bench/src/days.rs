@@ -1,0 +1,99 @@
+//! Settling of whole days: the proved one beside the reference's.
+
+use crate::{median, proved};
+use reference::generate::{line_with_steps, valid_day};
+use reference::layout::MOST_STEPS;
+use reference::refusal::day_number;
+use std::hint::black_box;
+use std::time::Instant;
+
+type Settler = fn(&[u8], &mut [u8]) -> u32;
+
+pub const SETTLERS: [(&str, Settler); 2] =
+    [("proved", proved::settle), ("reference", reference_settle)];
+
+/// Lines of a day, and whether clawback is on.
+pub const DAYS: [(u32, u32); 6] = [(1, 0), (8, 0), (64, 0), (1, 1), (8, 1), (64, 1)];
+
+/// Days of a kind.
+const COUNT: usize = 16;
+const ROUNDS: usize = 101;
+const BOOK: usize = 96 + 56 * 64;
+
+#[inline(never)]
+fn reference_settle(day: &[u8], book: &mut [u8]) -> u32 {
+    reference::settle::settle(day, book)
+}
+
+fn put(bytes: &mut [u8], at: usize, word: u32) {
+    bytes[at..at + 4].copy_from_slice(&word.to_le_bytes());
+}
+
+/// A day of so many generated lines with as many steps as can be, of both sides.
+fn day(seed: u64, lines: u32, clawback: u32) -> Vec<u8> {
+    let mut day = valid_day(seed)[..64].to_vec();
+    let length = 64 + 660 * lines;
+    for (at, word) in [(0, lines), (4, 16), (8, 64), (12, length), (60, clawback)] {
+        put(&mut day, at, word);
+    }
+    for k in 0..lines {
+        let steps = MOST_STEPS - (k % 2) as usize;
+        let mut line = line_with_steps(seed * 64 + u64::from(k), steps);
+        put(&mut line, 0, k);
+        day.extend(line);
+    }
+    assert_eq!(day_number(&day), 0);
+    day
+}
+
+pub fn days(lines: u32, clawback: u32) -> Vec<Vec<u8>> {
+    (0..COUNT as u64)
+        .map(|seed| day(seed, lines, clawback))
+        .collect()
+}
+
+pub fn pass(settler: Settler, days: &[Vec<u8>]) {
+    let mut book = [0; BOOK];
+    for day in days {
+        black_box(settler(black_box(day), &mut book));
+        black_box(&book);
+    }
+}
+
+fn compare(days: &[Vec<u8>]) {
+    for day in days {
+        let answers = SETTLERS.map(|(_, settler)| {
+            let mut book = [0xa5; BOOK];
+            (settler(day, &mut book), book)
+        });
+        assert!(answers[0] == answers[1]);
+    }
+}
+
+/// Each round times one pass of each, beginning with another one each time.
+pub fn times() {
+    println!("| Lines | Clawback | proved us | reference us | proved / reference |");
+    println!("|---|---|---|---|---|");
+    for (lines, clawback) in DAYS {
+        let days = days(lines, clawback);
+        compare(&days);
+        let mut taken: [Vec<f64>; 2] = Default::default();
+        for round in 0..ROUNDS {
+            for turn in 0..2 {
+                let which = (round + turn) % 2;
+                let start = Instant::now();
+                pass(SETTLERS[which].1, &days);
+                taken[which].push(start.elapsed().as_nanos() as f64 / COUNT as f64 / 1000.0);
+            }
+        }
+        let pairs = taken[0].iter().zip(&taken[1]);
+        let ratio = median(&mut pairs.map(|(ours, theirs)| ours / theirs).collect::<Vec<f64>>());
+        let us = taken.map(|mut values| median(&mut values));
+        println!(
+            "| {lines} | {} | {:.2} | {:.2} | {ratio:.2} |",
+            ["off", "on"][clawback as usize],
+            us[0],
+            us[1]
+        );
+    }
+}
