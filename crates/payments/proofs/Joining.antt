@@ -14,9 +14,9 @@ use Rattle.rules.specs.Layout.{quantityMost, priceMost}
 use Rattle.rules.specs.Matching.{rise, fall, matched}
 use Rattle.rules.specs.Payments.{onStep, bit, rate, revisedRate, isPaid, initial, revised, modified, matchedAt, givenBack}
 use Rattle.rules.specs.declared.Step.{Step}
-use Rattle.laws.specs.Folds.{sum-suc, sum-same}
+use Rattle.laws.specs.Folds.{sum-suc, sum-same, at-five}
 use Rattle.laws.specs.Ints.{pl, mi}
-use Rattle.numbers.specs.Fives.{at-five, five-same}
+use Rattle.numbers.specs.Fives.{five-same}
 use Rattle.matching.specs.Ledgers.{matchRow}
 use Rattle.matching.specs.Balance.{matched-out}
 use Rattle.payments.specs.Sizes.{Sized, rate-most, revisedRate-most, fall-most, givenBack-most}
@@ -40,7 +40,7 @@ unfolding matchRow givenAt productIn givenBack matchedAt
 given-is x s f h p q =
     rw (p, q)
     (sum-same 4 (productIn (five (matched (onStep x) s)) (five f)) (matchedAt x s f)
-    (λ r k. rw (at-five (matched (onStep x) s) r (omega arith), at-five f r (omega arith)))
+    (λ r k. rw (at-five (matched (onStep x) s) 0 r (omega arith), at-five f 0 r (omega arith)))
     ∙ sum-cut s 4 (matchedAt x s f)
     (λ r k. rw (matched-out (onStep x) s r k) (zero-mul (f r)))
     (omega arith))

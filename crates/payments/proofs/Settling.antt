@@ -14,7 +14,8 @@ use Rattle.rules.specs.Matching.{fall}
 use Rattle.rules.specs.Payments.{onStep, rate, isPaid, initial, revised, modified, finalPayment}
 use Rattle.rules.specs.declared.Step.{Step}
 use Rattle.laws.specs.Ints.{mi, pl-subℕ, parts}
-use Rattle.numbers.specs.Fives.{at-five, five-is, five-same, five-most}
+use Rattle.laws.specs.Folds.{at-five}
+use Rattle.numbers.specs.Fives.{five-is, five-same, five-most}
 use Rattle.payments.specs.declared.SidePool.{SidePool}
 use Rattle.payments.specs.Sizes.{Sized}
 use Rattle.payments.specs.Parts.{changeOn, initial-minus, takenBack, sharedTotal, revised-most, final-plus, final-minus}
@@ -74,12 +75,12 @@ final-entry : (x : Step) (claw : ℕ) (p : SidePool) (s : ℕ) → s < 5 → tak
 unfolding takenIn minusOf finalOn
 final-entry x claw p s h =
     rw (
-      at-five (minusOf (initial x)) s h,
-      at-five (minusOf (revised x)) s h,
-      at-five (minusOf (modified x)) s h,
-      at-five (changeOn fall x) s h,
-      at-five (totalIn p) s h,
-      at-five (baseIn p) s h,
+      at-five (minusOf (initial x)) 0 s h,
+      at-five (minusOf (revised x)) 0 s h,
+      at-five (minusOf (modified x)) 0 s h,
+      at-five (changeOn fall x) 0 s h,
+      at-five (totalIn p) 0 s h,
+      at-five (baseIn p) 0 s h,
     )
     (sym (finished x claw s p))
 
@@ -129,11 +130,11 @@ sharing x p w z k s h =
       w .falls,
       w .totals,
       w .bases,
-      at-five (minusOf (initial x)) s h,
-      at-five (minusOf (revised x)) s h,
-      at-five (changeOn fall x) s h,
-      at-five (totalIn p) s h,
-      at-five (baseIn p) s h,
+      at-five (minusOf (initial x)) 0 s h,
+      at-five (minusOf (revised x)) 0 s h,
+      at-five (changeOn fall x) 0 s h,
+      at-five (totalIn p) 0 s h,
+      at-five (baseIn p) 0 s h,
     )
     (sharing-at x p s h z k)
 

@@ -25,10 +25,6 @@ row-more : (n : ℕ) (f : ℕ → List ℕ) → five (rowTo (n + 1) f) ≡ five 
 unfolding rowTo sumIn placeOf
 row-more n f = same-five (sum-more n _) (sum-more n _) (sum-more n _) (sum-more n _) (sum-more n _)
 
-row-none : (f g : ℕ → List ℕ) → five (rowTo 0 f) ≡ five (rowTo 0 g)
-unfolding rowTo sumTo
-row-none f g = refl
-
 -- pools
 unfoldable pub plusOf : (ℕ → SidePool) → ℕ → List ℕ
 plusOf f i = f i .plus
@@ -59,10 +55,6 @@ pub pool-more : (n : ℕ) (f : ℕ → SidePool) → poolTo (n + 1) f ≡ poolSu
 unfolding poolTo poolSum plusOf minusOf risesOf fallsOf differsOf
 pool-more n f = rw (row-more n (λ i. f i .plus), row-more n (λ i. f i .minus), row-more n (λ i. f i .rises), row-more n (λ i. f i .falls), row-more n (λ i. f i .differs))
 
-pub pool-none : (f g : ℕ → SidePool) → poolTo 0 f ≡ poolTo 0 g
-unfolding poolTo
-pool-none f g = rw (row-none (plusOf f) (plusOf g), row-none (minusOf f) (minusOf g), row-none (risesOf f) (risesOf g), row-none (fallsOf f) (fallsOf g), row-none (differsOf f) (differsOf g))
-
 -- money
 unfoldable pub paidOf : (ℕ → Money) → ℕ → List ℕ
 paidOf f i = f i .plus
@@ -76,10 +68,6 @@ moneyTo n f = record { plus = five (rowTo n (paidOf f)); minus = five (rowTo n (
 pub money-more : (n : ℕ) (f : ℕ → Money) → moneyTo (n + 1) f ≡ moneySum (moneyTo n f) (f n)
 unfolding moneyTo moneySum paidOf takenOf
 money-more n f = rw (row-more n (λ i. f i .plus), row-more n (λ i. f i .minus))
-
-pub money-none : (f g : ℕ → Money) → moneyTo 0 f ≡ moneyTo 0 g
-unfolding moneyTo
-money-none f g = rw (row-none (paidOf f) (paidOf g), row-none (takenOf f) (takenOf g))
 
 -- a signed sum by what is paid and what is taken back
 pub sum-split : (n : ℕ) (f : ℕ → ℤ) (p m : ℕ → ℕ) → ((i : ℕ) → i < n → Split (f i) (p i) (m i)) → Split (sumZ n f) (sumTo n p) (sumTo n m)

@@ -128,7 +128,9 @@ fn step_money(x: Step, claw: u32, p: SidePool) -> Money
 // What line k is paid, with the pool of its side.
 pub fn line_paid(day: &[u8], k: usize, m: Market, p: SidePool) -> LinePaid
     requires { ⌜ (AcceptedDay (now day)) × (k < lineCount (now day)) × (m ≡ marketOf (now day)) × (PoolFor (now day) (side (lineAt (now day) k)) p) ⌝ }
-    ensures { λ r. ⌜ (r .count ≡ stepCount (lineAt (now (day .entry)) k)) × (r .money ≡ moneyTo (stepCount (lineAt (now (day .entry)) k)) (stepMoney (now (day .entry)) k)) ⌝ }
+    ensures { λ r.
+        ⌜ (r .count ≡ stepCount (lineAt (now (day .entry)) k))
+        × (r .money ≡ moneyTo (stepCount (lineAt (now (day .entry)) k)) (stepMoney (now (day .entry)) k)) ⌝ }
 {
     let line = line_of(day, k);
     let t = totals_of(line);

@@ -14,7 +14,7 @@ use Rattle.rules.specs.Layout.{word}
 use Rattle.rules.specs.Book.{le, bits64, signedBytes}
 use Rattle.laws.specs.Folds.{joined-suc, joined-length}
 use Rattle.bytes_le.specs.Wide.{longWord, signedOf}
-use Rattle.report.specs.BookText.{moneyAt}
+use Rattle.bookbytes.specs.Reading.{signedAt}
 
 -- t stands in l from place i on
 pub record Part (l : List ℕ) (i : ℕ) (t : List ℕ) : Type 0 where
@@ -103,5 +103,5 @@ bits-most : (z : ℤ) → mag z < 2 ^ 63 → bits64 z < 2 ^ 64
 bits-most (pos n) h = omega arith
 bits-most (negsuc n) h = omega arith
 
-pub money-back : {l : List ℕ} {i : ℕ} (z : ℤ) → Part l i (signedBytes z) → mag z < 2 ^ 63 → moneyAt l i ≡ z
+pub money-back : {l : List ℕ} {i : ℕ} (z : ℤ) → Part l i (signedBytes z) → mag z < 2 ^ 63 → signedAt l i ≡ z
 money-back z p h = ap signedOf (long-back (bits64 z) p (bits-most z h)) ∙ signed-bits z h

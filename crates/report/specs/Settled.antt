@@ -21,7 +21,8 @@ use Rattle.rules.specs.Report.{totalText, adjustedText, numberAfter, fiveNumber
 use Rattle.laws.specs.Folds.{joined-none, joined-suc, joined-length, refuse-false, orElse-zero, orElse-suc}
 use Rattle.laws.specs.Accepted.{accepted-day}
 use Rattle.text.specs.Lines.{lineTextOf, heading, totalsText, line-of}
-use Rattle.report.specs.BookText.{moneysAt, bookTotal, bookAdjusted, entryAt, entryText, bookText, reportMost, reportOf, report-refused, report-book}
+use Rattle.bookbytes.specs.Framing.{entryAt}
+use Rattle.report.specs.BookText.{moneysAt, bookTotal, bookAdjusted, entryText, bookText, reportMost, reportOf, report-refused, report-book}
 use Rattle.report.specs.Parts.{Part, part-left, part-right, part-in, part-at, part-joined, le-length, word-back, money-back}
 
 -- what the day's book holds fits its words and signed numbers

@@ -107,7 +107,3 @@ module _ (d : List ℕ) (k j x : ℕ) (number : x ≡ dayFault d) where
 pub lower-there : (l : List ℕ) (j : ℕ) → (j ≡ 0 → ⊥) → getD l (j - 1) 0 ≡ getD (0 ∷ l) j 0
 lower-there l zero n = absurd (n refl)
 lower-there l (suc j) n = ap (λ (i : ℕ). getD l i 0) (omega arith)
-
-pub lower-first : (l : List ℕ) (j : ℕ) → j ≡ 0 → 0 ≡ getD (0 ∷ l) j 0
-lower-first l zero h = refl
-lower-first l (suc j) h = absurd (omega arith)

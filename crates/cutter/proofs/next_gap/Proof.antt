@@ -7,7 +7,6 @@ use Rattle.cutter.proofs.next_gap.Tie as tie
 use Rattle.cutter.proofs.next_gap.Reads as reads
 use Rattle.cutter.proofs.next_gap.Lts as lts
 use Rattle.cutter.proofs.gap.Reads as gap-reads
-use Rattle.cutter.proofs.lesser.Reads as lesser-reads
 
 -- src/lib.rt:174:16
 gap-requires : tie.Need-gap-requires
