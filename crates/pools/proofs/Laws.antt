@@ -21,9 +21,10 @@ use Rattle.day.proofs.Laws.{line-length}
 use Rattle.cutter.specs.Sweep.{Line}
 use Rattle.cutter.specs.Ends.{count-most}
 use Rattle.payments.specs.Sizes.{Sized}
-use Rattle.payments.specs.Amounts.{stepPool, poolSum, Addable, sumIn, moneyOf, finalOn, moneySum, poolAt}
+use Rattle.payments.specs.Amounts.{moneyOf}
+use Rattle.finals.specs.Amounts.{stepPool, poolSum, Addable, sumIn, finalOn, moneySum, poolAt}
 use Rattle.payments.specs.declared.Money.{Money}
-use Rattle.payments.specs.declared.SidePool.{SidePool}
+use Rattle.finals.specs.declared.SidePool.{SidePool}
 use Rattle.inputs.specs.declared.Market.{Market}
 use Rattle.inputs.specs.declared.LineTotals.{LineTotals}
 use Rattle.inputs.specs.Inputs.{marketOf, totalsOf, stepFrom, priceIn, flagIn}

@@ -10,9 +10,9 @@ use borrow.Author.Tests.{lt-ltb, le-ltb, ltb-true, ltb-false}
 use Rattle.rules.specs.Fold.{sumTo, sumZ, someTo, five, at}
 use Rattle.laws.specs.Folds.{sum-more, sum-suc, sum-none, sumZ-none, sumZ-suc, some-none, some-suc, same-five}
 use Rattle.laws.specs.Ints.{Split, split-none, split-add}
-use Rattle.payments.specs.declared.SidePool.{SidePool}
+use Rattle.finals.specs.declared.SidePool.{SidePool}
 use Rattle.payments.specs.declared.Money.{Money}
-use Rattle.payments.specs.Amounts.{sumIn, poolSum, moneySum}
+use Rattle.finals.specs.Amounts.{sumIn, poolSum, moneySum}
 
 -- the sum over i below n of place s of row i
 unfoldable pub placeOf : (ℕ → List ℕ) → ℕ → ℕ → ℕ

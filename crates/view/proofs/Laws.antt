@@ -16,8 +16,8 @@ use Rattle.rules.specs.declared.View.{View}
 use Rattle.rules.specs.declared.Cut.{Cut}
 use Rattle.numbers.specs.Fives.{five-same}
 use Rattle.cutter.specs.Arrays.{padded-at}
-use Rattle.payments.specs.declared.SidePool.{SidePool}
-use Rattle.payments.specs.Amounts.{finalOn, poolAt}
+use Rattle.finals.specs.declared.SidePool.{SidePool}
+use Rattle.finals.specs.Amounts.{finalOn, poolAt}
 use Rattle.pools.specs.Lines.{PoolFor, off-initial}
 use Rattle.view.specs.Figures.{viewFrom, view-is}
 

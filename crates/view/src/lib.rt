@@ -2,14 +2,14 @@
 use day::day_number;
 use day::line_count;
 use day::line_of;
+use finals::SidePool;
+use finals::finals;
 use inputs::flag_row;
 use inputs::market_of;
 use inputs::price_row;
 use inputs::step_of;
 use inputs::totals_of;
 use matching::ten_matches;
-use payments::SidePool;
-use payments::finals;
 use payments::initial;
 use payments::modified;
 use payments::revised;
@@ -29,7 +29,7 @@ ghost use lib.ListN.{getD};
 ghost use Rattle.rules.specs.Fold.{five};
 ghost use Rattle.rules.specs.Viewing.{viewRefused, viewAnswer};
 ghost use Rattle.payments.specs.Sizes.{Sized};
-ghost use Rattle.payments.specs.Amounts.{finalOn};
+ghost use Rattle.finals.specs.Amounts.{finalOn};
 ghost use Rattle.pools.specs.Lines.{Payable};
 ghost use Rattle.view.specs.Figures.{viewFrom};
 

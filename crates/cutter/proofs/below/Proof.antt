@@ -7,11 +7,9 @@ use Rattle.cutter.proofs.below.Tie as tie
 use Rattle.cutter.proofs.below.Reads as reads
 use Rattle.cutter.proofs.below.Lts as lts
 
--- src/lib.rt:86:9
 returns : tie.Need-returns
 returns c = bit-lt _ _ (c .if1 .taken)
 
--- src/lib.rt:82:1
 returns-2 : tie.Need-returns-2
 returns-2 c = bit-le _ _ (c .if1 .left)
 

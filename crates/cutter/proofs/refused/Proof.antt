@@ -8,7 +8,6 @@ use Rattle.cutter.proofs.refused.Tie as tie
 use Rattle.cutter.proofs.refused.Reads as reads
 use Rattle.cutter.proofs.refused.Lts as lts
 
--- src/lib.rt:269:1
 returns : tie.Need-returns
 unfolding cutRefused
 returns c = refl

@@ -9,23 +9,18 @@ use Rattle.cutter.proofs.step_after.Lts as lts
 use Rattle.cutter.proofs.below.Reads as below-reads
 use Rattle.cutter.proofs.same.Reads as same-reads
 
--- src/lib.rt:96:23
 same-requires : tie.Need-same-requires
 same-requires c κs = search needs
 
--- src/lib.rt:96:16
 add-next : tie.Need-add-next
 add-next c = omega (arith, bit-one _ (c .before .same .ensures))
 
--- src/lib.rt:97:12
 below-requires : tie.Need-below-requires
 below-requires c κs = search needs
 
--- src/lib.rt:97:5
 sub-result : tie.Need-sub-result
 sub-result c = bit-over _ _ (c .below .ensures)
 
--- src/lib.rt:92:1
 returns : tie.Need-returns
 returns c = after-is _ _ _ (c .before .before .same .ensures) (c .below .ensures) (c .before .before .before .pre .0)
 
