@@ -1,13 +1,12 @@
 -- The cutter's certificate: what its answer for an accepted line says, place by place. The side stands only in `outOfOrder`.
 use Prim.Native.Nat.{ℕ, zero, suc, _+_, _*_, _-_, _≤_, _<_}
 use native.Mathlib.Omega.{arith}
-use native.Mathlib.Decide.{decLt}
 use mathlib.Core.Path.{_≡_, refl, sym, _∙_, ap, subst}
 use mathlib.Core.Bool.{Bool, true, false, cond}
 use mathlib.Core.List.{List, []}
-use lib.ListN.{length, getD, length-map, List·getD-eq-default}
+use lib.ListN.{length, getD}
 use lib.Dec.{eqb}
-use borrow.Author.Tests.{eq-eqb, eqb-true, eqb-false, ltb-false, leb-false}
+use borrow.Author.Tests.{eq-eqb, eqb-true}
 use Rattle.rules.specs.Fold.{before, sumTo}
 use Rattle.rules.specs.Layout.{side}
 use Rattle.rules.specs.Steps.{ends, stepCount, upperEnd, greatestBreak, price, flag}

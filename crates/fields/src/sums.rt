@@ -6,14 +6,13 @@ use crate::kinds::QuantityRead;
 use numbers::greater;
 use numbers::lesser;
 ghost use mathlib.Core.Path.{_≡_};
-ghost use Prim.Native.Nat.{_+_, _*_, _≤_, _<_};
-ghost use mathlib.Core.List.{[]};
+ghost use Prim.Native.Nat.{_+_, _*_, _<_};
 ghost use lib.ListN.{length};
-ghost use Rattle.rules.specs.Fold.{five, first, at};
+ghost use Rattle.rules.specs.Fold.{five, first};
 ghost use Rattle.rules.specs.Layout.{operatingRow, operatingTable, actualEntry};
 ghost use Rattle.rules.specs.Steps.{bidMost, greatestBreak};
 ghost use Rattle.rules.specs.Quantities.{pricingTotal};
-ghost use Rattle.rules.specs.Refusals.{bidFault, totalFault, actualFault};
+ghost use Rattle.rules.specs.Refusals.{bidFault, actualFault};
 ghost use Rattle.fields.specs.Parts.{hedgeFault, tailFault, fiveWords, tableTotal, rowSum, lesserSum, totalsFault};
 
 fn wide(v: u32) -> u64

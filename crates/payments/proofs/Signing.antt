@@ -1,9 +1,9 @@
 -- Money of payments within the limits as signed numbers.
-use Prim.Native.Nat.{ℕ, _*_, _<_, _^_}
+use Prim.Native.Nat.{ℕ, _*_}
 use native.Mathlib.Omega.{arith}
 use mathlib.Core.Path.{_≡_, sym}
 use lib.IntN.{ℤ}
-use Rattle.rules.specs.Fold.{five, at}
+use Rattle.rules.specs.Fold.{five}
 use Rattle.rules.specs.Layout.{quantityMost, priceMost}
 use Rattle.laws.specs.Ints.{parts}
 use Rattle.numbers.specs.Fives.{five-is, five-most}

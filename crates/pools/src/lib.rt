@@ -23,8 +23,8 @@ ghost use Rattle.inputs.specs.Inputs.{marketOf};
 ghost use Rattle.payments.specs.Sizes.{Sized};
 ghost use Rattle.payments.specs.Amounts.{moneyOf};
 ghost use Rattle.finals.specs.Amounts.{finalOn};
-ghost use Rattle.pools.specs.Sums.{poolTo, moneyTo};
-ghost use Rattle.pools.specs.Sides.{stepPoolAt, linePool, sidePart, sidePool};
+ghost use Rattle.pools.specs.Sums.{moneyTo};
+ghost use Rattle.pools.specs.Sides.{linePool, sidePart, sidePool};
 ghost use Rattle.pools.specs.Lines.{stepMoney, noPool, PoolFor, Payable};
 
 // What a line is paid in all, and how many steps it has.

@@ -1,8 +1,6 @@
 -- AGINO(s) is at most O(s), MSIQ(s) at most E(s), C(s) at most O(s), and each of a step's quantities at most its upper end.
 use Prim.Native.Nat.{ℕ, zero, suc, _-_, _≤_, _<_, min}
-use native.Mathlib.Nat.{le-trans}
 use native.Mathlib.Omega.{arith}
-use mathlib.Core.Path.{_≡_, refl}
 use mathlib.Core.List.{List}
 use mathlib.Core.Bool.{Bool, true, false, cond}
 use Rattle.rules.specs.Fold.{five, at}

@@ -1,6 +1,6 @@
 -- The view's answer from what the code has worked out.
-use Prim.Native.Nat.{ℕ, zero, suc, _-_, _<_}
-use mathlib.Core.Path.{_≡_, refl, sym, _∙_, ap, subst}
+use Prim.Native.Nat.{ℕ, zero, suc, _-_}
+use mathlib.Core.Path.{_≡_, refl, _∙_, ap, subst}
 use mathlib.Core.List.{List, _∷_}
 use lib.ListN.{getD}
 use lib.IntN.{ℤ}

@@ -23,7 +23,7 @@ use quantities::pricing_on;
 use rules::Step;
 use rules::View;
 ghost use mathlib.Core.Path.{_≡_};
-ghost use Prim.Native.Nat.{_≤_, _<_};
+ghost use Prim.Native.Nat.{_<_};
 ghost use mathlib.Core.List.{_∷_};
 ghost use lib.ListN.{getD};
 ghost use Rattle.rules.specs.Fold.{five};

@@ -1,6 +1,4 @@
 -- `cutter::below` meets its contract.
-use native.Mathlib.Omega.{arith}
-use borrow.Author.Needs.{needs}
 use Rattle.cutter.proofs.Moves.{bit-lt, bit-le}
 use Rattle.cutter.proofs.below.Statement.{statement}
 use Rattle.cutter.proofs.below.Tie as tie

@@ -1,5 +1,4 @@
 -- `cutter::cursor_start` meets its contract.
-use native.Mathlib.Omega.{arith}
 use borrow.Author.Needs.{needs}
 use mathlib.Core.Path.{refl}
 use Rattle.cutter.proofs.Moves.{cursor-is}

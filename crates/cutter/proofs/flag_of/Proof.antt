@@ -1,6 +1,4 @@
 -- `cutter::flag_of` meets its contract.
-use native.Mathlib.Omega.{arith}
-use borrow.Author.Needs.{needs}
 use Rattle.cutter.proofs.Moves.{bit-lt, bit-le}
 use Rattle.cutter.proofs.flag_of.Statement.{statement}
 use Rattle.cutter.proofs.flag_of.Tie as tie

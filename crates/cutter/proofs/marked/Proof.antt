@@ -1,6 +1,4 @@
 -- `cutter::marked` meets its contract.
-use native.Mathlib.Omega.{arith}
-use borrow.Author.Needs.{needs}
 use Rattle.cutter.proofs.Moves.{room-of, marked-is}
 use Rattle.cutter.proofs.marked.Statement.{statement}
 use Rattle.cutter.proofs.marked.Tie as tie

@@ -1,6 +1,5 @@
 -- `cutter::next_gap` meets its contract.
 use native.Mathlib.Omega.{arith}
-use borrow.Author.Needs.{needs}
 use Rattle.cutter.proofs.Moves.{next-is}
 use Rattle.cutter.proofs.next_gap.Statement.{statement}
 use Rattle.cutter.proofs.next_gap.Tie as tie

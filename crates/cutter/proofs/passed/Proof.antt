@@ -1,6 +1,5 @@
 -- `cutter::passed` meets its contract.
 use native.Mathlib.Omega.{arith}
-use borrow.Author.Needs.{needs}
 use Rattle.cutter.proofs.Moves.{bid-read, passed-is}
 use Rattle.cutter.proofs.passed.Statement.{statement}
 use Rattle.cutter.proofs.passed.Tie as tie

@@ -1,6 +1,4 @@
 -- `cutter::refused` meets its contract.
-use native.Mathlib.Omega.{arith}
-use borrow.Author.Needs.{needs}
 use mathlib.Core.Path.{refl}
 use Rattle.rules.specs.Cutting.{cutRefused}
 use Rattle.cutter.proofs.refused.Statement.{statement}

@@ -1,6 +1,4 @@
 -- `cutter::same` meets its contract.
-use native.Mathlib.Omega.{arith}
-use borrow.Author.Needs.{needs}
 use Rattle.cutter.proofs.Moves.{bit-eq, bit-ne}
 use Rattle.cutter.proofs.same.Statement.{statement}
 use Rattle.cutter.proofs.same.Tie as tie

@@ -1,6 +1,5 @@
 -- `cutter::start` meets its contract.
 use native.Mathlib.Omega.{arith}
-use borrow.Author.Needs.{needs}
 use Rattle.cutter.proofs.Moves.{bid-read, start-is}
 use Rattle.cutter.proofs.start.Statement.{statement}
 use Rattle.cutter.proofs.start.Tie as tie

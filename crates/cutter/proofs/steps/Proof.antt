@@ -1,6 +1,5 @@
 -- `cutter::steps` meets its contract.
 use native.Mathlib.Omega.{arith}
-use borrow.Author.Needs.{needs}
 use Prim.Native.Nat.{_-_}
 use Rattle.rules.specs.Steps.{stepCount}
 use Rattle.cutter.specs.Ends.{count-most}

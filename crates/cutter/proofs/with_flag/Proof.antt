@@ -1,5 +1,4 @@
 -- `cutter::with_flag` meets its contract.
-use native.Mathlib.Omega.{arith}
 use borrow.Author.Needs.{needs}
 use Rattle.cutter.proofs.Moves.{flag-put}
 use Rattle.cutter.proofs.with_flag.Statement.{statement}

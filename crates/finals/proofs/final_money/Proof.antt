@@ -1,5 +1,4 @@
 -- `finals::final_money` meets its contract, row by row.
-use borrow.Author.Needs.{needs}
 use mathlib.Core.Path.{_∙_}
 use Rattle.rules.specs.Matching.{rise, fall}
 use Rattle.matching.specs.Ledgers.{matchRow}

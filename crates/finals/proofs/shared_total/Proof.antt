@@ -1,5 +1,4 @@
 -- `finals::shared_total` meets its contract.
-use borrow.Author.Needs.{needs}
 use borrow.Author.Tests.{eq-eqb, ne-eqb}
 use Rattle.finals.proofs.shared_total.Statement.{statement}
 use Rattle.finals.proofs.shared_total.Tie as tie

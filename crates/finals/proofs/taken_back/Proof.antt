@@ -1,6 +1,5 @@
 -- `finals::taken_back` meets its contract.
 use native.Mathlib.Omega.{arith}
-use borrow.Author.Needs.{needs}
 use borrow.Author.Tests.{eq-eqb, ne-eqb, lt-ltb}
 use Rattle.numbers.specs.Shares.{share-most}
 use Rattle.payments.specs.Parts.{takenBack}

@@ -1,5 +1,4 @@
 -- `payments::initial` meets its contract.
-use borrow.Author.Needs.{needs}
 use Rattle.rules.specs.Payments.{initial}
 use Rattle.payments.specs.Kinds.{initial-within}
 use Rattle.payments.proofs.Signing.{signable, money-back}
