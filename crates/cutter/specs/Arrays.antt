@@ -2,11 +2,11 @@
 use Prim.Native.Nat.{ℕ, zero, suc, _+_, _*_, _-_, _/_, _%_, _≤_, _<_}
 use native.Mathlib.Omega.{arith}
 use native.Mathlib.Decide.{decLt}
-use mathlib.Core.Path.{_≡_, refl, sym, _∙_, ap, subst}
+use mathlib.Core.Path.{_≡_, refl, sym, _∙_}
 use mathlib.Core.List.{List, [], _∷_, _++_, map}
-use lib.ListN.{length, getD, replicate, length-append, length-replicate, List·getD-append, List·getD-eq-default}
+use lib.ListN.{length, getD, replicate, length-append, length-replicate, List·getD-append}
 use lib.Seq.{getD-append-add}
-use Rattle.rules.specs.Fold.{padded, joined, sumOf, sumTo, five}
+use Rattle.rules.specs.Fold.{padded, joined, sumOf, sumTo}
 use Rattle.rules.specs.Cutting.{bits}
 use Rattle.laws.specs.Folds.{joined-suc, joined-length, sum-none}
 
@@ -48,14 +48,6 @@ rows-at (suc n) f h s k a b =
           let p : 56 * s + k ≡ length (joined n f) + k = omega arith in
           rw (p, e) (getD-append-add (joined n f) (f n) k 0)
     ])
-
-pub five-at : (f : ℕ → ℕ) (s : ℕ) → s < 5 → getD (five f) s 0 ≡ f s
-five-at f zero h = refl
-five-at f (suc zero) h = refl
-five-at f (suc (suc zero)) h = refl
-five-at f (suc (suc (suc zero))) h = refl
-five-at f (suc (suc (suc (suc zero)))) h = refl
-five-at f (suc (suc (suc (suc (suc s))))) h = absurd (omega arith)
 
 -- bit k of a word, from 0
 unfoldable pub bitAt : ℕ → ℕ → ℕ

@@ -1,25 +1,24 @@
 -- The cutter's certificate: what its answer for an accepted line says, place by place. The side stands only in `outOfOrder`.
 use Prim.Native.Nat.{ℕ, zero, suc, _+_, _*_, _-_, _≤_, _<_}
 use native.Mathlib.Omega.{arith}
-use native.Mathlib.Decide.{decLt}
 use mathlib.Core.Path.{_≡_, refl, sym, _∙_, ap, subst}
 use mathlib.Core.Bool.{Bool, true, false, cond}
 use mathlib.Core.List.{List, []}
-use lib.ListN.{length, getD, length-map, List·getD-eq-default}
+use lib.ListN.{length, getD}
 use lib.Dec.{eqb}
-use borrow.Author.Tests.{eq-eqb, eqb-true, eqb-false, ltb-false, leb-false}
+use borrow.Author.Tests.{eq-eqb, eqb-true}
 use Rattle.rules.specs.Fold.{before, sumTo}
 use Rattle.rules.specs.Layout.{side}
 use Rattle.rules.specs.Steps.{ends, stepCount, upperEnd, greatestBreak, price, flag}
 use Rattle.rules.specs.Refusals.{cutFault, outOfOrder}
 use Rattle.rules.specs.Cutting.{prices, flags, flagWord, missing, priceRow, cutOf, cutRefused, cutAnswer}
 use Rattle.rules.specs.declared.Cut.{Cut}
-use Rattle.laws.specs.Folds.{orElse-both, sum-none, sum-suc, sum-same}
+use Rattle.laws.specs.Folds.{orElse-both, sum-none, sum-suc, sum-same, at-five}
 use Rattle.laws.specs.Accepted.{AcceptedLine, accepted-line}
 use Rattle.cutter.specs.Lists.{in-at, place-of, rises-at, rises-mono}
 use Rattle.cutter.specs.Ends.{EndOf, end-of, of-end, ends-rise, count-most, count-some, last-is}
 use Rattle.cutter.specs.Prices.{PriceRule, price-rule, price-order, flag-stays, prices-length, prices-at, flags-length, flags-at, flags-most}
-use Rattle.cutter.specs.Arrays.{bitAt, padded-at, padded-length, rows-at, five-at, bits-at, sum-places}
+use Rattle.cutter.specs.Arrays.{bitAt, padded-at, padded-length, rows-at, bits-at, sum-places}
 
 -- the answer's upper end of step k, the one before (0 before the first), and the width
 unfoldable pub endAt : Cut → ℕ → ℕ
@@ -106,7 +105,7 @@ module _ (w : List ℕ) (h : AcceptedLine w) where
 
   bit-at : (s k : ℕ) → s < 5 → flagAt (cutOf w) s k ≡ getD (flags w s) k 0
   unfolding flagAt cutOf flagWord
-  bit-at s k a = rw (five-at (flagWord w) s a) (bits-at (flags w s) (flags-most w s) k)
+  bit-at s k a = rw (at-five (flagWord w) 0 s a) (bits-at (flags w s) (flags-most w s) k)
 
   flag-at : (s k : ℕ) → s < 5 → k < stepCount w → flagAt (cutOf w) s k ≡ flag w s (upperEnd w k)
   flag-at s k a b = bit-at s k a ∙ flags-at w s k b
@@ -114,7 +113,7 @@ module _ (w : List ℕ) (h : AcceptedLine w) where
   missing-at : (s : ℕ) → s < 5 → getD (cutOf w .missing) s 0 ≡ sumTo (stepCount w) (flagAt (cutOf w) s)
   unfolding cutOf missing
   missing-at s a =
-      five-at (missing w) s a
+      at-five (missing w) 0 s a
       ∙ sum-places (flags w s)
       ∙ rw (flags-length w s) (sum-same (stepCount w) (λ k. getD (flags w s) k 0) (flagAt (cutOf w) s) (λ k l. sym (bit-at s k a)))
 

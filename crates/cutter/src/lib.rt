@@ -4,11 +4,13 @@
 // The least of their breaks and of the hedge that is above the last end is the next end, and where a cursor stands gives the step's
 // price and flag in its schedule. No cursor moves back, and nothing in a step is decided by a branch.
 use bytes_le::word_at;
+use fields::count_of;
 use line::line_number;
+use numbers::lesser;
 use rules::Cut;
 use std::num::wrapping_sub_u32;
 ghost use mathlib.Core.Path.{_≡_};
-ghost use Prim.Native.Nat.{_+_, _*_, _-_, _≤_, _<_, min};
+ghost use Prim.Native.Nat.{_+_, _*_, _-_, _≤_, _<_};
 ghost use lib.ListN.{length};
 ghost use lib.Dec.{eqb, ltb};
 ghost use Rattle.rules.specs.Layout.{bidCount, bidBreak, bidPrice};
@@ -46,13 +48,6 @@ pub struct Words {
     pub third: u64,
     pub fourth: u64,
     pub fifth: u64,
-}
-
-fn bid_count(line: &[u8], s: usize) -> usize
-    requires { ⌜ (length (now line) ≡ 660) × (s < 5) ⌝ }
-    ensures { λ r. ⌜ r ≡ bidCount (now (line .entry)) s ⌝ }
-{
-    word_at(line, 4 * (5 + 23 * s)) as usize
 }
 
 fn bid_break(line: &[u8], s: usize, j: usize) -> u32
@@ -103,7 +98,7 @@ fn moved(line: &[u8], s: usize, c: Cursor, u: u32) -> Cursor
     requires { ⌜ BidRead (now line) s × (c .at < bidCount (now line) s) × (u < past) ⌝ }
     ensures { λ r. ⌜ r ≡ cursorMoved (now (line .entry)) s c u ⌝ }
 {
-    let at = step_after(c, u, bid_count(line, s) - 1);
+    let at = step_after(c, u, count_of(line, s) - 1);
     Cursor {
         at,
         head: bid_break(line, s, at),
@@ -147,15 +142,6 @@ fn passed(line: &[u8], at: Sweep, u: u32) -> Sweep
         fourth: moved(line, 3, at.fourth, u),
         fifth: moved(line, 4, at.fifth, u),
     }
-}
-
-fn lesser(a: u32, b: u32) -> u32
-    ensures { λ r. ⌜ r ≡ min a b ⌝ }
-{
-    if a < b {
-        return a;
-    }
-    b
 }
 
 // How far x is above e, from 0; FAR or more where it is not.

@@ -13,10 +13,10 @@ use Rattle.rules.specs.Refusals.{headerFault, marketPriceFault, markFault, mark
 use Rattle.laws.specs.Folds.{not-eq, not-ne, stops, passes, ends-at, none-at, part-stops, part-passes, first-same}
 use Rattle.laws.specs.Accepted.{AcceptedHeader, accepted-header}
 use Rattle.line.specs.Parts.{lineFrom}
-use Rattle.line.specs.declared.kinds.Price.{Price}
-use Rattle.line.specs.declared.kinds.PriceRead.{PriceRead}
-use Rattle.line.specs.Kinds.{priceRead}
-use Rattle.line.proofs.Laws.{price-within-is, price-above-is}
+use Rattle.fields.specs.declared.kinds.Price.{Price}
+use Rattle.fields.specs.declared.kinds.PriceRead.{PriceRead}
+use Rattle.fields.specs.Kinds.{priceRead}
+use Rattle.fields.proofs.Laws.{price-within-is, price-above-is}
 
 -- rows 1 to 3, with the words that were read
 module _ (d : List ℕ) where

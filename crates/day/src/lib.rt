@@ -1,6 +1,6 @@
 // The day file: header, market table and all lines, refusals 1 to 5 and 14, and the lent line.
-use line::kinds::Price;
-use line::kinds::PriceRead;
+use fields::kinds::Price;
+use fields::kinds::PriceRead;
 ghost use mathlib.Core.Path.{_≡_};
 ghost use Prim.Native.Nat.{_+_, _*_, _≤_, _<_};
 ghost use lib.ListN.{length};

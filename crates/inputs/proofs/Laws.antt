@@ -14,8 +14,8 @@ use Rattle.rules.specs.Refusals.{lineFault}
 use Rattle.rules.specs.declared.Step.{Step}
 use Rattle.laws.specs.Folds.{same-five, at-five}
 use Rattle.laws.specs.Accepted.{accepted-line}
-use Rattle.line.specs.Parts.{tableTotal, lesserSum, lesserAt}
-use Rattle.line.proofs.Laws.{table-total}
+use Rattle.fields.specs.Parts.{tableTotal, lesserSum, lesserAt}
+use Rattle.fields.proofs.Laws.{table-total}
 use Rattle.cutter.specs.Arrays.{bitAt}
 use Rattle.cutter.specs.Ends.{most-limit}
 use Rattle.inputs.specs.declared.Market.{Market}

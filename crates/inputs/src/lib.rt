@@ -1,10 +1,10 @@
 // What one step is worked out from: the market table, a line's totals and the cut step, put together as a `Step`.
 use bytes_le::word_at;
-use line::sums::actuals;
-use line::sums::effective_actual;
-use line::sums::operating_table;
-use line::sums::operating_totals;
-use line::sums::pricing_totals;
+use fields::sums::actuals;
+use fields::sums::effective_actual;
+use fields::sums::operating_table;
+use fields::sums::operating_totals;
+use fields::sums::pricing_totals;
 use numbers::lesser;
 use rules::Step;
 ghost use mathlib.Core.Path.{_≡_};

@@ -150,9 +150,6 @@ pub sumZ-suc : (n : ℕ) (f : ℕ → ℤ) → sumZ (suc n) f ≡ sumZ n f +ℤ 
 unfolding sumZ
 sumZ-suc n f = refl
 
-pub sumZ-more : (n : ℕ) (f : ℕ → ℤ) → sumZ (n + 1) f ≡ sumZ n f +ℤ f n
-sumZ-more n f = rw add-one (sumZ-suc n f)
-
 -- the greatest
 pub most-none : (f : ℕ → ℕ) → mostTo 0 f ≡ 0
 unfolding mostTo
@@ -161,9 +158,6 @@ most-none f = refl
 pub most-suc : (n : ℕ) (f : ℕ → ℕ) → mostTo (suc n) f ≡ max (mostTo n f) (f n)
 unfolding mostTo
 most-suc n f = refl
-
-pub most-more : (n : ℕ) (f : ℕ → ℕ) → mostTo (n + 1) f ≡ max (mostTo n f) (f n)
-most-more n f = rw add-one (most-suc n f)
 
 pub most-term : (n : ℕ) (f : ℕ → ℕ) (i : ℕ) → i < n → f i ≤ mostTo n f
 most-term zero f i h = absurd (omega arith)
@@ -190,9 +184,6 @@ some-none p = refl
 pub some-suc : (n : ℕ) (p : ℕ → Bool) → someTo (suc n) p ≡ someTo n p || p n
 unfolding someTo
 some-suc n p = refl
-
-pub some-more : (n : ℕ) (p : ℕ → Bool) → someTo (n + 1) p ≡ someTo n p || p n
-some-more n p = rw add-one (some-suc n p)
 
 -- lists one after another
 pub joined-none : (f : ℕ → List ℕ) → joined 0 f ≡ []

@@ -149,14 +149,6 @@ pub nonNeg-no : (x : ℤ) → nonNeg x ≡ false → 0 < mi x
 nonNeg-no (pos a) e = absurd (mathlib.Core.Bool.true≢false e)
 nonNeg-no (negsuc a) e = omega arith
 
-pub zero-nonNeg : (x : ℤ) → mi x ≡ 0 → nonNeg x ≡ true
-zero-nonNeg (pos a) e = refl
-zero-nonNeg (negsuc a) e = absurd (omega arith)
-
-pub pos-nonNeg : (x : ℤ) → 0 < mi x → nonNeg x ≡ false
-pos-nonNeg (pos a) e = absurd (omega arith)
-pos-nonNeg (negsuc a) e = refl
-
 -- the greater and the lesser of two
 max-by : (x y : ℤ) (t : Bool) → leZ x y ≡ t → (pl (cond t y x) ≡ max (pl x) (pl y)) × (mi (cond t y x) ≡ min (mi x) (mi y))
 max-by x y true e = (omega (arith, leZ-yes x y e, apart x, apart y), omega (arith, leZ-yes x y e, apart x, apart y))

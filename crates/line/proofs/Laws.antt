@@ -1,69 +1,25 @@
 -- A line's refusals part by part, from what the code has read.
-use Prim.Native.Nat.{ℕ, zero, suc, _+_, _*_, _-_, _≤_, _<_, max}
-use native.Mathlib.Nat.{zero-max}
+use Prim.Native.Nat.{ℕ, zero, suc, _+_, _*_, _-_, _≤_, _<_}
 use native.Mathlib.Omega.{arith}
 use mathlib.Core.Path.{_≡_, refl, sym, _∙_, ap, subst}
-use mathlib.Core.List.{List, []}
-use mathlib.Core.Bool.{Bool, true, false, not, cond}
+use mathlib.Core.List.{List}
+use mathlib.Core.Bool.{Bool, true, false, not}
 use lib.ListN.{length, take, drop, length-take, length-drop}
 use lib.Seq.{take-all}
 use lib.Dec.{eqb, ltb, leb}
-use borrow.Author.Tests.{lt-ltb, le-ltb, le-leb, lt-leb, eq-eqb, ne-eqb, leb-true, leb-false}
-use Rattle.rules.specs.Fold.{refuse, _orElse_, first, before, sumTo, mostTo, at, five}
-use Rattle.rules.specs.Layout.{side, accreditation, hedge, bidCount, bidBreak, bidPrice, actualEntry, operatingEntry, operatingTable}
-use Rattle.rules.specs.Steps.{bidMost, greatestBreak}
-use Rattle.rules.specs.Quantities.{pricingTotal, operatingTotal}
-use Rattle.rules.specs.Refusals.{breakFault, outOfOrder, orderFault, priceFault, unusedFault, bidFault, totalFault, actualFault, lineFault}
-use Rattle.laws.specs.Folds.{not-eq, not-ne, stops, passes, ends-at, none-at, part-stops, part-passes, orElse-assoc, fold-stops, most-rising, first-same, at-five}
-use Rattle.laws.specs.Accepted.{AcceptedBid, accepted-bid}
-use Rattle.line.specs.declared.kinds.Quantity.{Quantity}
-use Rattle.line.specs.declared.kinds.QuantityRead.{QuantityRead}
-use Rattle.line.specs.declared.kinds.Price.{Price}
-use Rattle.line.specs.declared.kinds.PriceRead.{PriceRead}
-use Rattle.line.specs.Kinds.{quantityRead, priceRead}
-use Rattle.line.specs.Parts.{lineFrom, headFault, slotsFault, hedgeFault, totalsFault, tailFault, rowSum, tableTotal, lesserAt, lesserSum, bit}
-
--- reading a kind
-pub quantity-within : (v x : ℕ) → x ≡ v → x ≤ 200000000 → QuantityRead.Within (record { mj = x }) ≡ quantityRead v
-quantity-within v x e h = rw (← e, le-leb x 200000000 h)
-
-pub quantity-above : (v x : ℕ) → x ≡ v → 200000000 < x → QuantityRead.Above ≡ quantityRead v
-quantity-above v x e h = rw (← e, lt-leb x 200000000 h)
-
-pub price-within : (v x : ℕ) → x ≡ v → x ≤ 10000000 → PriceRead.Within (record { units = x }) ≡ priceRead v
-price-within v x e h = rw (← e, le-leb x 10000000 h)
-
-pub price-above : (v x : ℕ) → x ≡ v → 10000000 < x → PriceRead.Above ≡ priceRead v
-price-above v x e h = rw (← e, lt-leb x 10000000 h)
-
--- what a read kind says of the word
-within-by : (v : ℕ) (q : Quantity) (t : Bool) → leb v 200000000 ≡ t → QuantityRead.Within q ≡ cond t (QuantityRead.Within (record { mj = v })) QuantityRead.Above → (v ≤ 200000000) × (q .mj ≡ v)
-within-by v q true e h = (leb-true v 200000000 e, (let g : q ≡ record { mj = v } = cc in ap (λ (z : Quantity). z .mj) g))
-within-by v q false e h = let z : _≡_ {A = ℕ} 0 1 = cc in absurd (omega arith)
-
-pub quantity-within-is : (v : ℕ) (q : Quantity) → QuantityRead.Within q ≡ quantityRead v → (v ≤ 200000000) × (q .mj ≡ v)
-quantity-within-is v q h = within-by v q (leb v 200000000) refl h
-
-above-by : (v : ℕ) (t : Bool) → leb v 200000000 ≡ t → QuantityRead.Above ≡ cond t (QuantityRead.Within (record { mj = v })) QuantityRead.Above → 200000000 < v
-above-by v true e h = let z : _≡_ {A = ℕ} 0 1 = cc in absurd (omega arith)
-above-by v false e h = leb-false v 200000000 e
-
-pub quantity-above-is : (v : ℕ) → QuantityRead.Above ≡ quantityRead v → 200000000 < v
-quantity-above-is v h = above-by v (leb v 200000000) refl h
-
-price-within-by : (v : ℕ) (q : Price) (t : Bool) → leb v 10000000 ≡ t → PriceRead.Within q ≡ cond t (PriceRead.Within (record { units = v })) PriceRead.Above → v ≤ 10000000
-price-within-by v q true e h = leb-true v 10000000 e
-price-within-by v q false e h = let z : _≡_ {A = ℕ} 0 1 = cc in absurd (omega arith)
-
-pub price-within-is : (v : ℕ) (q : Price) → PriceRead.Within q ≡ priceRead v → v ≤ 10000000
-price-within-is v q h = price-within-by v q (leb v 10000000) refl h
-
-price-above-by : (v : ℕ) (t : Bool) → leb v 10000000 ≡ t → PriceRead.Above ≡ cond t (PriceRead.Within (record { units = v })) PriceRead.Above → 10000000 < v
-price-above-by v true e h = let z : _≡_ {A = ℕ} 0 1 = cc in absurd (omega arith)
-price-above-by v false e h = leb-false v 10000000 e
-
-pub price-above-is : (v : ℕ) → PriceRead.Above ≡ priceRead v → 10000000 < v
-price-above-is v h = price-above-by v (leb v 10000000) refl h
+use borrow.Author.Tests.{lt-ltb, le-ltb, le-leb, lt-leb, eq-eqb, ne-eqb, ltb-false}
+use Rattle.rules.specs.Fold.{refuse, _orElse_, first, before}
+use Rattle.rules.specs.Layout.{side, accreditation, bidCount, bidBreak, bidPrice}
+use Rattle.rules.specs.Refusals.{breakFault, outOfOrder, orderFault, priceFault, unusedFault, bidFault, lineFault}
+use Rattle.laws.specs.Folds.{refuse-zero, orElse-both, not-eq, not-ne, stops, passes, ends-at, none-at, part-stops, part-passes, orElse-assoc, fold-stops}
+use Rattle.fields.specs.declared.kinds.Quantity.{Quantity}
+use Rattle.fields.specs.declared.kinds.QuantityRead.{QuantityRead}
+use Rattle.fields.specs.declared.kinds.Price.{Price}
+use Rattle.fields.specs.declared.kinds.PriceRead.{PriceRead}
+use Rattle.fields.specs.Kinds.{quantityRead, priceRead}
+use Rattle.fields.specs.Parts.{hedgeFault, tailFault}
+use Rattle.fields.proofs.Laws.{quantity-within-is, quantity-above-is, price-within-is, price-above-is}
+use Rattle.line.specs.Parts.{lineFrom, headFault, countFault, slotsFault, bit}
 
 -- row 6
 module _ (w : List ℕ) (x : ℕ) (sd : x ≡ side w) where
@@ -171,104 +127,44 @@ module _ (w : List ℕ) (s i n x y : ℕ) (count : n ≡ bidCount w s) (brk : x 
   unfolding unusedFault
   unused-none-is h = passes 10 _ _ _ no-break (none-at 10 _ (not-ne _ 0 (sym price-there ∙ h)))
 
--- M
-pub last-most : (w : List ℕ) (s n : ℕ) → bidFault w s ≡ 0 → n ≡ bidCount w s → bidBreak w s (n - 1) ≡ bidMost w s
-unfolding bidMost
-last-most w s n f e = go n (accepted-bid w s f) e
-  where
-    go : (n : ℕ) → AcceptedBid w s → n ≡ bidCount w s → bidBreak w s (n - 1) ≡ mostTo (bidCount w s) (bidBreak w s)
-    go zero a e = absurd (omega (arith, a .count-least))
-    go (suc m) a e =
-        ap (bidBreak w s) (omega arith)
-        ∙ sym (most-rising (bidBreak w s) m (λ j h. a .rises j (subst (λ (k : ℕ). j < k) e h)))
-        ∙ ap (λ (k : ℕ). mostTo k (bidBreak w s)) e
+-- row 7
+pub count-empty : (n : ℕ) → n ≡ 0 → 7 ≡ countFault n
+unfolding countFault
+count-empty n h = stops 6 _ _ (eq-eqb n 0 h)
 
-pub most-five : (w : List ℕ) (a b c d e : ℕ) → a ≡ bidMost w 0 → b ≡ bidMost w 1 → c ≡ bidMost w 2 → d ≡ bidMost w 3 → e ≡ bidMost w 4
-    → max (max (max (max a b) c) d) e ≡ greatestBreak w
-unfolding greatestBreak mostTo
-most-five w a b c d e p q r s t = rw (p, q, r, s, t, zero-max)
+pub count-many : (n : ℕ) → (n ≡ 0 → ⊥) → 11 < n → 7 ≡ countFault n
+unfolding countFault
+count-many n e h = passes 7 _ _ _ (ne-eqb n 0 e) (ends-at 7 _ (lt-ltb 11 n h))
 
--- row 11
-module _ (w : List ℕ) (m h : ℕ) (hedge-is : h ≡ hedge w) where
-  pub hedge-above : m < h → 11 ≡ hedgeFault w m
-  unfolding hedgeFault
-  hedge-above l = stops 10 _ _ (lt-ltb m (hedge w) (omega arith))
+pub count-none : (n : ℕ) → (n ≡ 0 → ⊥) → n ≤ 11 → 0 ≡ countFault n
+unfolding countFault
+count-none n e h = passes 7 _ _ _ (ne-eqb n 0 e) (none-at 7 _ (le-ltb 11 n h))
 
-  module _ (l : h ≤ m) (x : ℕ) (sd : x ≡ side w) where
-    pub hedge-withdrawal : x ≡ 1 → (h ≡ 0 → ⊥) → 11 ≡ hedgeFault w m
-    unfolding hedgeFault
-    hedge-withdrawal e n =
-        passes 11 _ _ _ (le-ltb m (hedge w) (omega arith))
-        (ends-at 11 _ (rw (eq-eqb (side w) 1 (sym sd ∙ e)) (not-eq (hedge w) 0 (λ z. n (hedge-is ∙ z)))))
-
-    pub hedge-none : x ≡ 1 → h ≡ 0 → 0 ≡ hedgeFault w m
-    unfolding hedgeFault
-    hedge-none e z =
-        passes 11 _ _ _ (le-ltb m (hedge w) (omega arith))
-        (none-at 11 _ (rw (eq-eqb (side w) 1 (sym sd ∙ e)) (not-ne (hedge w) 0 (sym hedge-is ∙ z))))
-
-    pub hedge-injection : (x ≡ 1 → ⊥) → 0 ≡ hedgeFault w m
-    unfolding hedgeFault
-    hedge-injection n =
-        passes 11 _ _ _ (le-ltb m (hedge w) (omega arith))
-        (none-at 11 _ (rw (ne-eqb (side w) 1 (λ e. n (sd ∙ e)))))
-
--- row 13
-pub actual-above : (w : List ℕ) (i : ℕ) → QuantityRead.Above ≡ quantityRead (actualEntry w i) → 13 ≡ actualFault w i
-unfolding actualFault
-actual-above w i h = ends-at 13 _ (lt-ltb 200000000 (actualEntry w i) (quantity-above-is _ h))
-
-pub actual-within : (w : List ℕ) (i : ℕ) (q : Quantity) → QuantityRead.Within q ≡ quantityRead (actualEntry w i) → 0 ≡ actualFault w i
-unfolding actualFault
-actual-within w i q h = none-at 13 _ (le-ltb 200000000 (actualEntry w i) (quantity-within-is _ q h .0))
-
--- sums
-pub table-total : (w : List ℕ) (s : ℕ) → s < 5 → tableTotal (operatingTable w) s ≡ operatingTotal w s
-unfolding tableTotal rowSum operatingTotal sumTo
-table-total w s h = ap (λ (r : List ℕ). sumTo 5 (at r)) (at-five (λ (k : ℕ). five (operatingEntry w k)) [] s h)
-
-pub lesser-total : (a b : List ℕ) → rowSum (five (lesserAt a b)) ≡ lesserSum a b
-unfolding rowSum lesserSum sumTo
-lesser-total a b = refl
-
--- row 12, with M and the totals that were worked out
-pub totals-are : (w : List ℕ) (m : ℕ) (p o : List ℕ) → m ≡ greatestBreak w → p ≡ five (pricingTotal w) → o ≡ five (tableTotal (operatingTable w))
-    → first (totalsFault m p o) 5 ≡ first (totalFault w) 5
-unfolding totalsFault totalFault
-totals-are w m p o e a b = first-same 5 (totalsFault m p o) (totalFault w) same
-  where
-    same : (i : ℕ) → i < 5 → totalsFault m p o i ≡ totalFault w i
-    same i h = rw (e, a, b, at-five (pricingTotal w) 0 i h, at-five (tableTotal (operatingTable w)) 0 i h, table-total w i h)
+-- a count that passes
+pub count-few : (n x : ℕ) → x ≡ countFault n → x ≡ 0 → n ≤ 11
+unfolding countFault
+count-few n x e z = ltb-false 11 n (refuse-zero 6 _ (orElse-both _ _ (sym e ∙ z) .right))
 
 -- one bid, part by part, with the count that was read
+bid-is : (w : List ℕ) (s : ℕ) → bidFault w s ≡ countFault (bidCount w s) orElse (first (breakFault w s) (bidCount w s) orElse slotsFault w s)
+unfolding bidFault countFault slotsFault
+bid-is w s = simp orElse-assoc
+
 module _ (w : List ℕ) (s n : ℕ) (count : n ≡ bidCount w s) where
-  pub bid-empty : n ≡ 0 → 7 ≡ bidFault w s
-  unfolding bidFault
-  bid-empty h = stops 6 _ _ (eq-eqb _ 0 (sym count ∙ h))
+  module _ (c : ℕ) (counted : c ≡ countFault n) where
+    pub bid-count : (c ≡ 0 → ⊥) → c ≡ bidFault w s
+    bid-count h = part-stops _ _ _ (counted ∙ ap countFault count) h ∙ sym (bid-is w s)
 
-  module _ (least : n ≡ 0 → ⊥) where
-    some-steps : eqb (bidCount w s) 0 ≡ false
-    some-steps = ne-eqb _ 0 (λ e. least (count ∙ e))
-
-    pub bid-many : 11 < n → 7 ≡ bidFault w s
-    unfolding bidFault
-    bid-many h = passes 7 _ _ _ some-steps (stops 6 _ _ (lt-ltb 11 (bidCount w s) (omega arith)))
-
-    module _ (most : n ≤ 11) where
-      few-steps : ltb 11 (bidCount w s) ≡ false
-      few-steps = le-ltb 11 (bidCount w s) (omega arith)
-
+    module _ (few : c ≡ 0) where
       pub bid-break : (x : ℕ) → x ≡ first (breakFault w s) n → (x ≡ 0 → ⊥) → x ≡ bidFault w s
-      unfolding bidFault
       bid-break x e h =
-          passes 7 _ _ _ some-steps
-          (passes 7 _ _ _ few-steps (part-stops _ _ _ (e ∙ ap (first (breakFault w s)) count) h))
+          part-passes _ _ _ c (counted ∙ ap countFault count) few (part-stops _ _ _ (e ∙ ap (first (breakFault w s)) count) h)
+          ∙ sym (bid-is w s)
 
       pub bid-slots : 0 ≡ first (breakFault w s) n → (x : ℕ) → x ≡ slotsFault w s → x ≡ bidFault w s
-      unfolding bidFault slotsFault
       bid-slots b x e =
-          passes 7 _ _ _ some-steps
-          (passes 7 _ _ _ few-steps (part-passes _ _ _ 0 (b ∙ ap (first (breakFault w s)) count) refl e))
+          part-passes _ _ _ c (counted ∙ ap countFault count) few (part-passes _ _ _ 0 (b ∙ ap (first (breakFault w s)) count) refl e)
+          ∙ sym (bid-is w s)
 
   pub slots-stops : (x : ℕ) → x ≡ first (priceFault w s) n → (x ≡ 0 → ⊥) → x ≡ slotsFault w s
   unfolding slotsFault

@@ -1,3 +1,2 @@
--- The parts in which a line's refusals are worked out, and what reading a kind finds.
-pub mod Kinds
+-- The parts in which a line's refusals are worked out.
 pub mod Parts

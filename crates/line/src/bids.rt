@@ -1,28 +1,27 @@
 // Rows 7 to 10: one bid of a line.
-use crate::kinds::Price;
-use crate::kinds::PriceRead;
-use crate::kinds::Quantity;
-use crate::kinds::QuantityRead;
+use fields::kinds::Price;
+use fields::kinds::PriceRead;
+use fields::kinds::Quantity;
+use fields::kinds::QuantityRead;
 ghost use mathlib.Core.Path.{_≡_};
 ghost use Prim.Native.Nat.{_+_, _-_, _≤_, _<_};
 ghost use lib.ListN.{length};
 ghost use Rattle.rules.specs.Fold.{first, before};
 ghost use Rattle.rules.specs.Layout.{side, bidCount, bidBreak};
 ghost use Rattle.rules.specs.Refusals.{breakFault, outOfOrder, orderFault, priceFault, unusedFault};
-ghost use Rattle.line.specs.Parts.{slotsFault, bit};
+ghost use Rattle.line.specs.Parts.{countFault, slotsFault, bit};
 
-// How many steps the bid of schedule s has.
-pub fn count_of(line: &[u8], s: usize) -> usize
-    requires { ⌜ (length (now line) ≡ 660) × (s < 5) ⌝ }
-    ensures { λ r. ⌜ r ≡ bidCount (now (line .entry)) s ⌝ }
+// Row 7 of a bid of `count` steps.
+pub fn count_number(count: usize) -> u32
+    ensures { λ r. ⌜ r ≡ countFault count ⌝ }
 {
-    wide(bytes_le::word_at(line, 4 * (5 + 23 * s)))
-}
-
-fn wide(v: u32) -> usize
-    ensures { λ r. ⌜ r ≡ v ⌝ }
-{
-    v as usize
+    if count == 0 {
+        return 7;
+    }
+    if 11 < count {
+        return 7;
+    }
+    0
 }
 
 // The break before step j, 0 before the first.

@@ -1,12 +1,11 @@
-// One line's 660 bytes: the kinds quantity and price, fields, totals, and refusals 6 to 13.
+// One line's 660 bytes: refusals 6 to 13.
 pub mod bids;
-pub mod kinds;
-pub mod sums;
 
 use bids::break_number;
-use bids::count_of;
+use bids::count_number;
 use bids::slots_number;
-use sums::tail_number;
+use fields::count_of;
+use fields::sums::tail_number;
 ghost use mathlib.Core.Path.{_≡_};
 ghost use Prim.Native.Nat.{_+_, _*_, _≤_};
 ghost use lib.ListN.{length};
@@ -44,28 +43,22 @@ pub fn lines_number(b: &[u8], at: usize, n: usize) -> u32
         if head != 0 {
             break 'lines head;
         }
-        let mut s = 0;
-        while s < 5 {
+        for s in 0..5 {
             let count = count_of(line, s);
-            if count == 0 {
-                break 'lines 7;
+            let counted = count_number(count);
+            if counted != 0 {
+                break 'lines counted;
             }
-            if 11 < count {
-                break 'lines 7;
-            }
-            let mut j = 0;
-            while j < count {
+            for j in 0..count {
                 let fault = break_number(line, s, j);
                 if fault != 0 {
                     break 'lines fault;
                 }
-                j += 1;
             }
             let slots = slots_number(line, s, count);
             if slots != 0 {
                 break 'lines slots;
             }
-            s += 1;
         }
         let tail = tail_number(line);
         if tail != 0 {

@@ -3,6 +3,7 @@
 use numbers::less;
 use numbers::lesser;
 ghost use mathlib.Core.Path.{_≡_};
+ghost use lib.ListN.{replicate};
 ghost use Rattle.rules.specs.Fold.{five};
 ghost use Rattle.rules.specs.Matching.{tenMatches};
 ghost use Rattle.matching.specs.Ledgers.{entered, matchRow};
@@ -20,7 +21,9 @@ pub struct Matched {
 
 impl Ledger {
     // before the first schedule
-    pub fn empty() -> Self {
+    pub fn empty() -> Self
+        ensures { λ r. ⌜ r .rises ≡ replicate 4 0 ⌝ }
+    {
         Ledger { rises: [0; 4] }
     }
 

@@ -1,10 +1,11 @@
--- A row of five is the five values of a function, and the value at a schedule is the function's.
+-- A row of five is the five values of a function.
 use Prim.Native.Nat.{ℕ, zero, suc, _≤_, _<_}
 use native.Mathlib.Omega.{arith}
 use native.Mathlib.Decide.{decLt}
 use mathlib.Core.Path.{_≡_, refl}
-use mathlib.Core.List.{List, [], _∷_}
+use mathlib.Core.List.{[], _∷_}
 use Rattle.rules.specs.Fold.{five, at}
+use Rattle.laws.specs.Folds.{at-five}
 
 pub five-is : {A : Type 0} (f : ℕ → A) {a b c d e : A} → a ≡ f 0 → b ≡ f 1 → c ≡ f 2 → d ≡ f 3 → e ≡ f 4 → a ∷ b ∷ c ∷ d ∷ e ∷ [] ≡ five f
 five-is f p q r s t = λ i. p i ∷ q i ∷ r i ∷ s i ∷ t i ∷ []
@@ -13,15 +14,6 @@ five-is f p q r s t = λ i. p i ∷ q i ∷ r i ∷ s i ∷ t i ∷ []
 pub five-same : {A : Type 0} (f g : ℕ → A) → ((s : ℕ) → s < 5 → f s ≡ g s) → five f ≡ five g
 five-same f g h =
     five-is g (h 0 (omega arith)) (h 1 (omega arith)) (h 2 (omega arith)) (h 3 (omega arith)) (h 4 (omega arith))
-
--- the value of schedule s
-pub at-five : (f : ℕ → ℕ) (s : ℕ) → s < 5 → at (five f) s ≡ f s
-at-five f zero h = refl
-at-five f (suc zero) h = refl
-at-five f (suc (suc zero)) h = refl
-at-five f (suc (suc (suc zero))) h = refl
-at-five f (suc (suc (suc (suc zero)))) h = refl
-at-five f (suc (suc (suc (suc (suc s))))) h = absurd (omega arith)
 
 -- past the five it is 0
 pub past-five : (f : ℕ → ℕ) (s : ℕ) → 5 ≤ s → at (five f) s ≡ 0
@@ -36,6 +28,6 @@ past-five f (suc (suc (suc (suc (suc s))))) h = refl
 pub five-most : (f : ℕ → ℕ) (b : ℕ) → ((s : ℕ) → s < 5 → f s ≤ b) → (s : ℕ) → at (five f) s ≤ b
 five-most f b h s =
     elim (decLt s 5) [
-      | yes l ↦ rw (at-five f s l) (h s l)
+      | yes l ↦ rw (at-five f 0 s l) (h s l)
       | no g ↦ rw (past-five f s (omega arith)) (omega arith)
     ]

@@ -1,28 +1,26 @@
 -- What the code's rows of five come to, by the definitions of `rules`.
-use Prim.Native.Nat.{ℕ, zero, suc, _+_, _*_, _-_, _≤_, _<_, _^_}
-use native.Mathlib.Nat.{zero-mul, mul-le-mul}
+use Prim.Native.Nat.{ℕ, zero, suc, _*_, _≤_, _<_, _^_}
+use native.Mathlib.Nat.{zero-mul}
 use native.Mathlib.Decide.{decLt}
 use native.Mathlib.Omega.{arith}
-use mathlib.Core.Path.{_≡_, refl, sym, _∙_, ap}
-use mathlib.Core.Bool.{Bool, true, false, cond, not}
+use mathlib.Core.Path.{_≡_, sym, _∙_}
+use mathlib.Core.Bool.{cond}
 use mathlib.Core.List.{List}
-use lib.Dec.{eqb, eqb·suc-suc}
-use lib.IntN.{ℤ, pos, negsuc}
-use borrow.Author.Tests.{eq-eqb, ne-eqb}
-use Rattle.rules.specs.Fold.{sumTo, five, at, eqbZ}
+use lib.Dec.{eqb}
+use Rattle.rules.specs.Fold.{sumTo, five, at}
 use Rattle.rules.specs.Layout.{quantityMost, priceMost}
 use Rattle.rules.specs.Matching.{rise, fall, matched}
-use Rattle.rules.specs.Payments.{onStep, bit, rate, revisedRate, isPaid, initial, revised, modified, matchedAt, givenBack}
+use Rattle.rules.specs.Payments.{onStep, rate, revisedRate, isPaid, initial, revised, modified, matchedAt, givenBack}
 use Rattle.rules.specs.declared.Step.{Step}
-use Rattle.laws.specs.Folds.{sum-suc, sum-same}
+use Rattle.laws.specs.Folds.{sum-suc, sum-same, at-five}
 use Rattle.laws.specs.Ints.{pl, mi}
-use Rattle.numbers.specs.Fives.{at-five, five-same}
+use Rattle.numbers.specs.Fives.{five-same}
 use Rattle.matching.specs.Ledgers.{matchRow}
 use Rattle.matching.specs.Balance.{matched-out}
 use Rattle.payments.specs.Sizes.{Sized, rate-most, revisedRate-most, fall-most, givenBack-most}
 use Rattle.payments.specs.Parts.{changeOn, initial-plus, initial-minus, revised-plus, revised-minus, modified-plus, modified-minus}
 use Rattle.payments.specs.Kinds.{revised-first, modified-first}
-use Rattle.payments.specs.Amounts.{onlyPaid, productIn, givenAt, plusOf, minusOf, differIn, differsOn}
+use Rattle.payments.specs.Amounts.{onlyPaid, productIn, givenAt, plusOf, minusOf}
 
 -- a sum whose terms from s on are 0
 sum-cut : (s n : ℕ) (f : ℕ → ℕ) → ((r : ℕ) → s ≤ r → f r ≡ 0) → s ≤ n → sumTo n f ≡ sumTo s f
@@ -40,7 +38,7 @@ unfolding matchRow givenAt productIn givenBack matchedAt
 given-is x s f h p q =
     rw (p, q)
     (sum-same 4 (productIn (five (matched (onStep x) s)) (five f)) (matchedAt x s f)
-    (λ r k. rw (at-five (matched (onStep x) s) r (omega arith), at-five f r (omega arith)))
+    (λ r k. rw (at-five (matched (onStep x) s) 0 r (omega arith), at-five f 0 r (omega arith)))
     ∙ sum-cut s 4 (matchedAt x s f)
     (λ r k. rw (matched-out (onStep x) s r k) (zero-mul (f r)))
     (omega arith))
@@ -99,21 +97,3 @@ revised-pays x = five-same (plusOf (initial x)) (plusOf (revised x)) (λ s h. sy
 pub modified-pays : (x : Step) → five (plusOf (initial x)) ≡ five (plusOf (modified x))
 unfolding plusOf
 modified-pays x = five-same (plusOf (initial x)) (plusOf (modified x)) (λ s h. sym (modified-plus x s))
-
--- where revised differs from initial
-differs-by : (a b : ℤ) → pl a ≡ pl b → eqb (mi a) (mi b) ≡ eqbZ a b
-differs-by (pos a) (pos b) e = sym (eq-eqb a b e)
-differs-by (pos a) (negsuc b) e = ne-eqb 0 (suc b) (λ q. omega arith)
-differs-by (negsuc a) (pos b) e = ne-eqb (suc a) 0 (λ q. omega arith)
-differs-by (negsuc a) (negsuc b) e = eqb·suc-suc a b
-
-pub differ-row : (x : Step) {a b d : List ℕ} → a ≡ five (minusOf (revised x)) → b ≡ five (minusOf (initial x)) → d ≡ five (differIn a b) → d ≡ five (differsOn x)
-unfolding differIn minusOf differsOn
-differ-row x e f g =
-    rw (g, e, f)
-    (five-same (λ s. bit (not (eqb (mi (revised x s)) (mi (initial x s))))) (differsOn x)
-    (λ s h. ap (λ (t : Bool). bit (not t)) (differs-by (revised x s) (initial x s) (revised-plus x s))))
-
--- a row read as wider numbers
-pub wide-row : (f : ℕ → ℕ) {u w : List ℕ} → u ≡ five f → w ≡ five (at u) → w ≡ five f
-wide-row f e g = rw (g, e)

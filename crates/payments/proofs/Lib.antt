@@ -1,3 +1,3 @@
 -- Laws that the proofs of `payments` cite.
 pub mod Joining
-pub mod Settling
+pub mod Signing

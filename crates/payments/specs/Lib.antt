@@ -3,4 +3,3 @@ pub mod Sizes
 pub mod Parts
 pub mod Kinds
 pub mod Amounts
-pub mod Lines

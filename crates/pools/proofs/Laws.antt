@@ -1,8 +1,8 @@
 -- Step j of line k as the loops over a line's steps put it together.
-use Prim.Native.Nat.{ℕ, zero, suc, _+_, _*_, _-_, _≤_, _<_, _^_}
+use Prim.Native.Nat.{ℕ, _+_, _*_, _≤_, _<_, _^_}
 use native.Mathlib.Omega.{arith}
 use native.Mathlib.Numerals.{add-one}
-use mathlib.Core.Path.{_≡_, refl, sym, _∙_, ap, subst}
+use mathlib.Core.Path.{_≡_, sym, _∙_, ap, subst}
 use mathlib.Core.List.{List}
 use lib.ListN.{length, getD}
 use Rattle.rules.specs.Fold.{five}
@@ -21,9 +21,10 @@ use Rattle.day.proofs.Laws.{line-length}
 use Rattle.cutter.specs.Sweep.{Line}
 use Rattle.cutter.specs.Ends.{count-most}
 use Rattle.payments.specs.Sizes.{Sized}
-use Rattle.payments.specs.Amounts.{stepPool, poolSum, Addable, sumIn, moneyOf, finalOn, moneySum, poolAt}
+use Rattle.payments.specs.Amounts.{moneyOf}
+use Rattle.finals.specs.Amounts.{stepPool, poolSum, Addable, sumIn, finalOn, moneySum, poolAt}
 use Rattle.payments.specs.declared.Money.{Money}
-use Rattle.payments.specs.declared.SidePool.{SidePool}
+use Rattle.finals.specs.declared.SidePool.{SidePool}
 use Rattle.inputs.specs.declared.Market.{Market}
 use Rattle.inputs.specs.declared.LineTotals.{LineTotals}
 use Rattle.inputs.specs.Inputs.{marketOf, totalsOf, stepFrom, priceIn, flagIn}

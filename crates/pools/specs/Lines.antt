@@ -19,12 +19,13 @@ use Rattle.laws.specs.Accepted.{AcceptedDay}
 use Rattle.laws.specs.Folds.{sum-suc, sum-same, at-five}
 use Rattle.laws.specs.Ints.{pl, mi, Split, split-own, split-is}
 use Rattle.numbers.specs.Fives.{five-same, past-five}
-use Rattle.payments.specs.declared.SidePool.{SidePool}
+use Rattle.finals.specs.declared.SidePool.{SidePool}
 use Rattle.payments.specs.declared.Money.{Money}
 use Rattle.payments.specs.Kinds.{paid-most, taken-most}
 use Rattle.payments.specs.Parts.{changeOn}
 use Rattle.payments.specs.Amounts as amounts
-use Rattle.payments.specs.Amounts.{sumIn, moneyOf, finalOn, poolAt, InPool, Signable, paymentOf}
+use Rattle.payments.specs.Amounts.{moneyOf, Signable, paymentOf}
+use Rattle.finals.specs.Amounts.{sumIn, finalOn, poolAt, InPool}
 use Rattle.inputs.specs.Paid.{scaled-most, sized}
 use Rattle.pools.specs.Sums.{placeOf, rowTo, poolTo, paidOf, takenOf, moneyTo, sum-split}
 use Rattle.pools.specs.Sides.{sidePool, stepAt, lineSum, pool-is}

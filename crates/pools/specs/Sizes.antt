@@ -20,8 +20,8 @@ use Rattle.cutter.specs.Ends.{count-most, most-limit}
 use Rattle.payments.specs.Sizes.{rate-most}
 use Rattle.payments.specs.Parts.{changeOn, initial-plus, revised-plus, revised-most}
 use Rattle.payments.specs.Kinds.{initial-most}
-use Rattle.payments.specs.Amounts.{sumIn, differsOn, Addable, InPool}
-use Rattle.payments.specs.declared.SidePool.{SidePool}
+use Rattle.finals.specs.Amounts.{sumIn, differsOn, Addable, InPool}
+use Rattle.finals.specs.declared.SidePool.{SidePool}
 use Rattle.inputs.specs.Paid.{scaled-most, sized, constrained-most, earlier-most, line}
 use Rattle.pools.specs.Sums.{rowTo, poolTo}
 use Rattle.pools.specs.Sides.{stepPoolAt, linePool, sidePart, sidePool, stepAt, lineSum, sideAt, sideSum, Row, paidIn, takenIn, plus-row, minus-row, rises-row, falls-row, differs-row, steps-place, part-place, lines-place, side-place}

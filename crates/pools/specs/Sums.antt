@@ -10,9 +10,9 @@ use borrow.Author.Tests.{lt-ltb, le-ltb, ltb-true, ltb-false}
 use Rattle.rules.specs.Fold.{sumTo, sumZ, someTo, five, at}
 use Rattle.laws.specs.Folds.{sum-more, sum-suc, sum-none, sumZ-none, sumZ-suc, some-none, some-suc, same-five}
 use Rattle.laws.specs.Ints.{Split, split-none, split-add}
-use Rattle.payments.specs.declared.SidePool.{SidePool}
+use Rattle.finals.specs.declared.SidePool.{SidePool}
 use Rattle.payments.specs.declared.Money.{Money}
-use Rattle.payments.specs.Amounts.{sumIn, poolSum, moneySum}
+use Rattle.finals.specs.Amounts.{sumIn, poolSum, moneySum}
 
 -- the sum over i below n of place s of row i
 unfoldable pub placeOf : (ℕ → List ℕ) → ℕ → ℕ → ℕ
@@ -24,10 +24,6 @@ rowTo n f s = sumTo n (placeOf f s)
 row-more : (n : ℕ) (f : ℕ → List ℕ) → five (rowTo (n + 1) f) ≡ five (sumIn (five (rowTo n f)) (f n))
 unfolding rowTo sumIn placeOf
 row-more n f = same-five (sum-more n _) (sum-more n _) (sum-more n _) (sum-more n _) (sum-more n _)
-
-row-none : (f g : ℕ → List ℕ) → five (rowTo 0 f) ≡ five (rowTo 0 g)
-unfolding rowTo sumTo
-row-none f g = refl
 
 -- pools
 unfoldable pub plusOf : (ℕ → SidePool) → ℕ → List ℕ
@@ -59,10 +55,6 @@ pub pool-more : (n : ℕ) (f : ℕ → SidePool) → poolTo (n + 1) f ≡ poolSu
 unfolding poolTo poolSum plusOf minusOf risesOf fallsOf differsOf
 pool-more n f = rw (row-more n (λ i. f i .plus), row-more n (λ i. f i .minus), row-more n (λ i. f i .rises), row-more n (λ i. f i .falls), row-more n (λ i. f i .differs))
 
-pub pool-none : (f g : ℕ → SidePool) → poolTo 0 f ≡ poolTo 0 g
-unfolding poolTo
-pool-none f g = rw (row-none (plusOf f) (plusOf g), row-none (minusOf f) (minusOf g), row-none (risesOf f) (risesOf g), row-none (fallsOf f) (fallsOf g), row-none (differsOf f) (differsOf g))
-
 -- money
 unfoldable pub paidOf : (ℕ → Money) → ℕ → List ℕ
 paidOf f i = f i .plus
@@ -76,10 +68,6 @@ moneyTo n f = record { plus = five (rowTo n (paidOf f)); minus = five (rowTo n (
 pub money-more : (n : ℕ) (f : ℕ → Money) → moneyTo (n + 1) f ≡ moneySum (moneyTo n f) (f n)
 unfolding moneyTo moneySum paidOf takenOf
 money-more n f = rw (row-more n (λ i. f i .plus), row-more n (λ i. f i .minus))
-
-pub money-none : (f g : ℕ → Money) → moneyTo 0 f ≡ moneyTo 0 g
-unfolding moneyTo
-money-none f g = rw (row-none (paidOf f) (paidOf g), row-none (takenOf f) (takenOf g))
 
 -- a signed sum by what is paid and what is taken back
 pub sum-split : (n : ℕ) (f : ℕ → ℤ) (p m : ℕ → ℕ) → ((i : ℕ) → i < n → Split (f i) (p i) (m i)) → Split (sumZ n f) (sumTo n p) (sumTo n m)

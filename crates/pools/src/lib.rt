@@ -1,18 +1,18 @@
 // Pools of a line's steps and of a side's lines, and what a line is paid.
 use day::line_count;
 use day::line_of;
+use finals::SidePool;
+use finals::final_money;
+use finals::money_add;
+use finals::pool_add;
+use finals::step_pool;
 use inputs::Market;
 use inputs::flag_row;
 use inputs::price_row;
 use inputs::step_of;
 use inputs::totals_of;
 use payments::Money;
-use payments::SidePool;
-use payments::final_money;
 use payments::initial_money;
-use payments::money_add;
-use payments::pool_add;
-use payments::step_pool;
 use rules::Step;
 ghost use mathlib.Core.Path.{_≡_};
 ghost use Prim.Native.Nat.{_<_};
@@ -21,9 +21,10 @@ ghost use Rattle.rules.specs.Steps.{stepCount};
 ghost use Rattle.laws.specs.Accepted.{AcceptedDay};
 ghost use Rattle.inputs.specs.Inputs.{marketOf};
 ghost use Rattle.payments.specs.Sizes.{Sized};
-ghost use Rattle.payments.specs.Amounts.{moneyOf, finalOn};
-ghost use Rattle.pools.specs.Sums.{poolTo, moneyTo};
-ghost use Rattle.pools.specs.Sides.{stepPoolAt, linePool, sidePart, sidePool};
+ghost use Rattle.payments.specs.Amounts.{moneyOf};
+ghost use Rattle.finals.specs.Amounts.{finalOn};
+ghost use Rattle.pools.specs.Sums.{moneyTo};
+ghost use Rattle.pools.specs.Sides.{linePool, sidePart, sidePool};
 ghost use Rattle.pools.specs.Lines.{stepMoney, noPool, PoolFor, Payable};
 
 // What a line is paid in all, and how many steps it has.
@@ -128,7 +129,9 @@ fn step_money(x: Step, claw: u32, p: SidePool) -> Money
 // What line k is paid, with the pool of its side.
 pub fn line_paid(day: &[u8], k: usize, m: Market, p: SidePool) -> LinePaid
     requires { ⌜ (AcceptedDay (now day)) × (k < lineCount (now day)) × (m ≡ marketOf (now day)) × (PoolFor (now day) (side (lineAt (now day) k)) p) ⌝ }
-    ensures { λ r. ⌜ (r .count ≡ stepCount (lineAt (now (day .entry)) k)) × (r .money ≡ moneyTo (stepCount (lineAt (now (day .entry)) k)) (stepMoney (now (day .entry)) k)) ⌝ }
+    ensures { λ r.
+        ⌜ (r .count ≡ stepCount (lineAt (now (day .entry)) k))
+        × (r .money ≡ moneyTo (stepCount (lineAt (now (day .entry)) k)) (stepMoney (now (day .entry)) k)) ⌝ }
 {
     let line = line_of(day, k);
     let t = totals_of(line);

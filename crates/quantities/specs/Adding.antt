@@ -2,15 +2,14 @@
 use Prim.Native.Nat.{ℕ, zero, suc, _-_, _≤_, _<_, min}
 use native.Mathlib.Omega.{arith}
 use native.Mathlib.Decide.{decLt}
-use mathlib.Core.Path.{_≡_, refl, sym, _∙_}
+use mathlib.Core.Path.{_≡_, _∙_}
 use mathlib.Core.List.{List}
 use Rattle.rules.specs.Fold.{sumTo, five, at}
 use Rattle.rules.specs.Layout.{lineAt}
 use Rattle.rules.specs.Steps.{greatestBreak, stepCount, upperEnd, lowerEnd}
 use Rattle.rules.specs.Quantities.{allocated, pricingTotal, operatingTotal}
 use Rattle.rules.specs.Payments.{stepOf, operatingOn, pricingOn, onStep}
-use Rattle.laws.specs.Folds.{sum-none, sum-suc, sum-le, sum-same}
-use Rattle.numbers.specs.Fives.{at-five}
+use Rattle.laws.specs.Folds.{sum-none, sum-suc, sum-le, sum-same, at-five}
 use Rattle.quantities.specs.Bounds.{onStep-most}
 
 -- q on the step from e j to e (j + 1)
@@ -60,7 +59,7 @@ allocatedTo f w s j = allocated (at (five f) s) (lowerEnd w j) (upperEnd w j)
 totals-add-up : (f : ℕ → ℕ) (w : List ℕ) (s : ℕ) → s < 5 → RisingEnds w → f s ≤ greatestBreak w → sumTo (stepCount w) (allocatedTo f w s) ≡ f s
 unfolding allocatedTo allocatedBetween lowerEnd upperEnd
 totals-add-up f w s h e k =
-    sum-same (stepCount w) (allocatedTo f w s) (allocatedBetween (f s) (lowerEnd w)) (λ j l. rw (at-five f s h))
+    sum-same (stepCount w) (allocatedTo f w s) (allocatedBetween (f s) (lowerEnd w)) (λ j l. rw (at-five f 0 s h))
     ∙ steps-add-up w (f s) e k
 
 -- the steps of line k of the day d

@@ -1,15 +1,14 @@
 -- AGINO(s) is at most O(s), MSIQ(s) at most E(s), C(s) at most O(s), and each of a step's quantities at most its upper end.
 use Prim.Native.Nat.{ℕ, zero, suc, _-_, _≤_, _<_, min}
-use native.Mathlib.Nat.{le-trans}
 use native.Mathlib.Omega.{arith}
-use mathlib.Core.Path.{_≡_, refl}
 use mathlib.Core.List.{List}
 use mathlib.Core.Bool.{Bool, true, false, cond}
 use Rattle.rules.specs.Fold.{five, at}
 use Rattle.rules.specs.Quantities.{allocated, leastFrom, lastAgino, agino, beyond, msiqFrom, msiq, constrained}
 use Rattle.rules.specs.Payments.{operatingOn, pricingOn, actualOn, aginoOn, msiqOn, constrainedOn, onStep}
 use Rattle.rules.specs.declared.Step.{Step}
-use Rattle.numbers.specs.Fives.{at-five, five-most}
+use Rattle.laws.specs.Folds.{at-five}
+use Rattle.numbers.specs.Fives.{five-most}
 
 -- the least of O(s) and later ones
 pub least-most : (o : List ℕ) (s m : ℕ) → leastFrom o s m ≤ at o s
@@ -50,22 +49,22 @@ allocated-most q l u = omega arith
 pub aginoOn-most : (x : Step) (s : ℕ) → s < 5 → aginoOn x s ≤ operatingOn x s
 unfolding aginoOn
 aginoOn-most x s h =
-    omega (arith, agino-most (five (operatingOn x)) (actualOn x) s, at-five (operatingOn x) s h)
+    omega (arith, agino-most (five (operatingOn x)) (actualOn x) s, at-five (operatingOn x) 0 s h)
 
 pub msiqOn-most : (x : Step) (s : ℕ) → s < 5 → msiqOn x s ≤ pricingOn x s
 unfolding msiqOn
 msiqOn-most x s h =
     omega
-    (arith, msiq-most (x .side) (x .price) (x .market) (five (pricingOn x)) s, at-five (pricingOn x) s h)
+    (arith, msiq-most (x .side) (x .price) (x .market) (five (pricingOn x)) s, at-five (pricingOn x) 0 s h)
 
 pub onStep-most : (x : Step) (s : ℕ) → s < 5 → at (onStep x) s ≤ operatingOn x s
 unfolding onStep constrainedOn
 onStep-most x s h =
     omega (
       arith,
-      at-five (constrainedOn x) s h,
+      at-five (constrainedOn x) 0 s h,
       constrained-most (five (operatingOn x)) (five (aginoOn x)) (five (msiqOn x)) s,
-      at-five (operatingOn x) s h,
+      at-five (operatingOn x) 0 s h,
     )
 
 -- C is at most the step's upper end
@@ -73,4 +72,4 @@ pub onStep-upper : (x : Step) (s : ℕ) → at (onStep x) s ≤ x .upper
 unfolding onStep operatingOn
 onStep-upper x s =
     five-most (constrainedOn x) (x .upper)
-    (λ t h. omega (arith, onStep-most x t h, at-five (constrainedOn x) t h, allocated-most (at (x .operating) t) (x .lower) (x .upper))) s
+    (λ t h. omega (arith, onStep-most x t h, at-five (constrainedOn x) 0 t h, allocated-most (at (x .operating) t) (x .lower) (x .upper))) s

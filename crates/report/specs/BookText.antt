@@ -11,16 +11,13 @@ use Rattle.rules.specs.Fold.{joined, five, atZ}
 use Rattle.rules.specs.Layout.{word, mostLines}
 use Rattle.rules.specs.Refusals.{bookLength}
 use Rattle.rules.specs.Report.{refusedLine}
-use Rattle.bytes_le.specs.Wide.{longWord, signedOf}
+use Rattle.bookbytes.specs.Reading.{signedAt}
+use Rattle.bookbytes.specs.Framing.{entryAt}
 use Rattle.text.specs.Lines.{lineTextOf, heading, totalsText, five-of}
-
--- the signed number whose first byte is byte i
-abbrev pub moneyAt : List ℕ → ℕ → ℤ
-moneyAt b i = signedOf (longWord b i)
 
 -- numbers `step` bytes apart, the first at byte `at`
 abbrev pub moneysAt : List ℕ → ℕ → ℕ → ℕ → ℤ
-moneysAt b at step s = moneyAt b (at + s * step)
+moneysAt b at step s = signedAt b (at + s * step)
 
 -- "words n, 16, 96, 96 + 56n; five pairs t, a as signed 64-bit"
 abbrev pub bookTotal : List ℕ → ℕ → ℤ
@@ -30,9 +27,6 @@ abbrev pub bookAdjusted : List ℕ → ℕ → ℤ
 bookAdjusted b = moneysAt b 24 16
 
 -- "per line participant, point, side, step count and five signed 64-bit payments"
-abbrev pub entryAt : ℕ → ℕ
-entryAt k = 96 + 56 * k
-
 unfoldable pub entryText : List ℕ → ℕ → List ℕ
 entryText b k =
     lineTextOf (word b (entryAt k)) (word b (entryAt k + 4)) (word b (entryAt k + 8)) (word b (entryAt k + 12))

@@ -1,4 +1,3 @@
 -- The report read off a book's bytes, and why it is the day's report.
 pub mod BookText
-pub mod Parts
 pub mod Settled

@@ -17,8 +17,9 @@ use Rattle.rules.specs.Totals.{total, totals, adjusted}
 use Rattle.rules.specs.Book.{lineEntry, bookOf}
 use Rattle.laws.specs.Accepted.{AcceptedDay}
 use Rattle.payments.specs.declared.Money.{Money}
-use Rattle.payments.specs.declared.SidePool.{SidePool}
-use Rattle.payments.specs.Amounts.{sumIn, moneySum, Signable, paymentOf}
+use Rattle.finals.specs.declared.SidePool.{SidePool}
+use Rattle.payments.specs.Amounts.{Signable, paymentOf}
+use Rattle.finals.specs.Amounts.{sumIn, moneySum}
 use Rattle.pools.specs.Sums.{moneyTo, money-more}
 use Rattle.pools.specs.Lines.{stepMoney, line-signable}
 use Rattle.totals.specs.Sizes.{Bounded}

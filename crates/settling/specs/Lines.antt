@@ -12,7 +12,7 @@ use Rattle.rules.specs.Layout.{lineCount, lineAt, side}
 use Rattle.rules.specs.Refusals.{dayFault, settleFault, bookLength}
 use Rattle.rules.specs.Book.{bookOf, bookAfter}
 use Rattle.laws.specs.Accepted.{AcceptedDay, accepted-line-at}
-use Rattle.payments.specs.declared.SidePool.{SidePool}
+use Rattle.finals.specs.declared.SidePool.{SidePool}
 use Rattle.inputs.specs.declared.Market.{Market}
 use Rattle.inputs.specs.Inputs.{marketOf}
 use Rattle.pools.specs.Lines.{PoolFor}

@@ -14,7 +14,8 @@ use Rattle.laws.specs.Folds.{sum-suc, sum-same, sum-most, at-five}
 use Rattle.laws.specs.Ints.{pl, mi, Split, split-is}
 use Rattle.numbers.specs.Fives.{five-same, past-five}
 use Rattle.payments.specs.declared.Money.{Money}
-use Rattle.payments.specs.Amounts.{sumIn, Signable, paymentOf}
+use Rattle.payments.specs.Amounts.{Signable, paymentOf}
+use Rattle.finals.specs.Amounts.{sumIn}
 use Rattle.inputs.specs.Paid.{payment-size}
 use Rattle.totals.specs.Sizes.{Bounded}
 use Rattle.totals.specs.Money.{totals-bounded}

@@ -1,6 +1,6 @@
 -- The view's answer from what the code has worked out.
-use Prim.Native.Nat.{ℕ, zero, suc, _-_, _<_}
-use mathlib.Core.Path.{_≡_, refl, sym, _∙_, ap, subst}
+use Prim.Native.Nat.{ℕ, zero, suc, _-_}
+use mathlib.Core.Path.{_≡_, refl, _∙_, ap, subst}
 use mathlib.Core.List.{List, _∷_}
 use lib.ListN.{getD}
 use lib.IntN.{ℤ}
@@ -16,8 +16,8 @@ use Rattle.rules.specs.declared.View.{View}
 use Rattle.rules.specs.declared.Cut.{Cut}
 use Rattle.numbers.specs.Fives.{five-same}
 use Rattle.cutter.specs.Arrays.{padded-at}
-use Rattle.payments.specs.declared.SidePool.{SidePool}
-use Rattle.payments.specs.Amounts.{finalOn, poolAt}
+use Rattle.finals.specs.declared.SidePool.{SidePool}
+use Rattle.finals.specs.Amounts.{finalOn, poolAt}
 use Rattle.pools.specs.Lines.{PoolFor, off-initial}
 use Rattle.view.specs.Figures.{viewFrom, view-is}
 

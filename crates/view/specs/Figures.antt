@@ -3,9 +3,8 @@ use Prim.Native.Nat.{ℕ, zero, suc, _-_, _≤_, _<_}
 use native.Mathlib.Omega.{arith}
 use mathlib.Core.Path.{_≡_, refl, sym, _∙_, ap}
 use mathlib.Core.List.{List, _∷_}
-use mathlib.Core.Bool.{cond}
 use lib.ListN.{getD}
-use lib.Dec.{eqb, leb}
+use lib.Dec.{eqb}
 use borrow.Author.Tests.{eq-eqb, ne-eqb, le-leb, lt-leb}
 use Rattle.rules.specs.Fold.{five}
 use Rattle.rules.specs.Layout.{lineCount, lineAt, side, clawback}
@@ -18,8 +17,8 @@ use Rattle.rules.specs.declared.Step.{Step}
 use Rattle.rules.specs.declared.View.{View}
 use Rattle.laws.specs.Folds.{stops, passes, ends-at, none-at, part-stops, part-passes}
 use Rattle.numbers.specs.Fives.{five-same}
-use Rattle.payments.specs.declared.SidePool.{SidePool}
-use Rattle.payments.specs.Amounts.{finalOn}
+use Rattle.finals.specs.declared.SidePool.{SidePool}
+use Rattle.finals.specs.Amounts.{finalOn}
 use Rattle.pools.specs.Lines.{PoolFor, finalAt, final-is}
 
 unfoldable pub viewFrom : Step → ℕ → SidePool → View
@@ -107,7 +106,3 @@ module _ (d : List ℕ) (k j x : ℕ) (number : x ≡ dayFault d) where
 pub lower-there : (l : List ℕ) (j : ℕ) → (j ≡ 0 → ⊥) → getD l (j - 1) 0 ≡ getD (0 ∷ l) j 0
 lower-there l zero n = absurd (n refl)
 lower-there l (suc j) n = ap (λ (i : ℕ). getD l i 0) (omega arith)
-
-pub lower-first : (l : List ℕ) (j : ℕ) → j ≡ 0 → 0 ≡ getD (0 ∷ l) j 0
-lower-first l zero h = refl
-lower-first l (suc j) h = absurd (omega arith)

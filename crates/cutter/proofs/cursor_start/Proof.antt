@@ -1,5 +1,4 @@
 -- `cutter::cursor_start` meets its contract.
-use native.Mathlib.Omega.{arith}
 use borrow.Author.Needs.{needs}
 use mathlib.Core.Path.{refl}
 use Rattle.cutter.proofs.Moves.{cursor-is}
@@ -9,11 +8,9 @@ use Rattle.cutter.proofs.cursor_start.Reads as reads
 use Rattle.cutter.proofs.cursor_start.Lts as lts
 use Rattle.cutter.proofs.bid_break.Reads as bid-break-reads
 
--- src/lib.rt:119:15
 bid-break-requires : tie.Need-bid-break-requires
 bid-break-requires c κs = search needs
 
--- src/lib.rt:113:1
 returns : tie.Need-returns
 returns c = cursor-is _ _ _ refl (c .bid-break .ensures)
 

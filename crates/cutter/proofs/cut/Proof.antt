@@ -9,31 +9,24 @@ use Rattle.cutter.proofs.refused.Reads as refused-reads
 use Rattle.cutter.proofs.steps.Reads as steps-reads
 use Rattle.line.proofs.line_number.Reads as line-number-reads
 
--- src/lib.rt:287:9
 refused-requires : tie.Need-refused-requires
 refused-requires c κs = search needs
 
--- src/lib.rt:287:9
 returns : tie.Need-returns
 returns c = cut-short _ (c .before .if1 .taken) (c .refused .ensures)
 
--- src/lib.rt:289:9
 line-number-requires : tie.Need-line-number-requires
 line-number-requires c κs = search needs
 
--- src/lib.rt:291:9
 refused-requires-2 : tie.Need-refused-requires-2
 refused-requires-2 c κs = search needs
 
--- src/lib.rt:291:9
 returns-2 : tie.Need-returns-2
 returns-2 c = cut-refused _ (c .before .before .before .if1 .left) (c .before .before .line-number .ensures) (c .before .if2 .taken) (c .refused2 .ensures)
 
--- src/lib.rt:293:5
 steps-requires : tie.Need-steps-requires
 steps-requires c κs = cut-line _ (c .before .before .if1 .left) (c .before .line-number .ensures) (c .if2 .left)
 
--- src/lib.rt:283:1
 returns-3 : tie.Need-returns-3
 returns-3 c = cut-whole _ (c .before .before .before .if1 .left) (c .before .before .line-number .ensures) (c .before .if2 .left) (c .steps .ensures)
 

@@ -1,17 +1,13 @@
 -- `cutter::flag_of` meets its contract.
-use native.Mathlib.Omega.{arith}
-use borrow.Author.Needs.{needs}
 use Rattle.cutter.proofs.Moves.{bit-lt, bit-le}
 use Rattle.cutter.proofs.flag_of.Statement.{statement}
 use Rattle.cutter.proofs.flag_of.Tie as tie
 use Rattle.cutter.proofs.flag_of.Reads as reads
 use Rattle.cutter.proofs.flag_of.Lts as lts
 
--- src/lib.rt:185:9
 returns : tie.Need-returns
 returns c = bit-lt _ _ (c .if1 .taken)
 
--- src/lib.rt:181:1
 returns-2 : tie.Need-returns-2
 returns-2 c = bit-le _ _ (c .if1 .left)
 

@@ -1,6 +1,4 @@
 -- `cutter::marked` meets its contract.
-use native.Mathlib.Omega.{arith}
-use borrow.Author.Needs.{needs}
 use Rattle.cutter.proofs.Moves.{room-of, marked-is}
 use Rattle.cutter.proofs.marked.Statement.{statement}
 use Rattle.cutter.proofs.marked.Tie as tie
@@ -9,47 +7,36 @@ use Rattle.cutter.proofs.marked.Lts as lts
 use Rattle.cutter.proofs.flag_of.Reads as flag-of-reads
 use Rattle.cutter.proofs.with_flag.Reads as with-flag-reads
 
--- src/lib.rt:204:39
 flag-of-requires : tie.Need-flag-of-requires
 flag-of-requires c κs = tt
 
--- src/lib.rt:204:16
 with-flag-requires : tie.Need-with-flag-requires
 with-flag-requires c κs = room-of (c .flag-of .ensures) (c .before .pre .first)
 
--- src/lib.rt:205:41
 flag-of-requires-2 : tie.Need-flag-of-requires-2
 flag-of-requires-2 c κs = tt
 
--- src/lib.rt:205:17
 with-flag-requires-2 : tie.Need-with-flag-requires-2
 with-flag-requires-2 c κs = room-of (c .flag-of2 .ensures) (c .before .before .before .pre .second)
 
--- src/lib.rt:206:39
 flag-of-requires-3 : tie.Need-flag-of-requires-3
 flag-of-requires-3 c κs = tt
 
--- src/lib.rt:206:16
 with-flag-requires-3 : tie.Need-with-flag-requires-3
 with-flag-requires-3 c κs = room-of (c .flag-of3 .ensures) (c .before .before .before .before .before .pre .third)
 
--- src/lib.rt:207:41
 flag-of-requires-4 : tie.Need-flag-of-requires-4
 flag-of-requires-4 c κs = tt
 
--- src/lib.rt:207:17
 with-flag-requires-4 : tie.Need-with-flag-requires-4
 with-flag-requires-4 c κs = room-of (c .flag-of4 .ensures) (c .before .before .before .before .before .before .before .pre .fourth)
 
--- src/lib.rt:208:39
 flag-of-requires-5 : tie.Need-flag-of-requires-5
 flag-of-requires-5 c κs = tt
 
--- src/lib.rt:208:16
 with-flag-requires-5 : tie.Need-with-flag-requires-5
 with-flag-requires-5 c κs = room-of (c .flag-of5 .ensures) (c .before .before .before .before .before .before .before .before .before .pre .fifth)
 
--- src/lib.rt:199:1
 returns : tie.Need-returns
 returns c = marked-is _ _ _ _ (c .before .before .before .before .before .before .before .before .before .flag-of .ensures) (c .before .before .before .before .before .before .before .before .with-flag .ensures) (c .before .before .before .before .before .before .before .flag-of2 .ensures) (c .before .before .before .before .before .before .with-flag2 .ensures) (c .before .before .before .before .before .flag-of3 .ensures) (c .before .before .before .before .with-flag3 .ensures) (c .before .before .before .flag-of4 .ensures) (c .before .before .with-flag4 .ensures) (c .before .flag-of5 .ensures) (c .with-flag5 .ensures)
 

@@ -7,30 +7,24 @@ use Rattle.cutter.proofs.moved.Tie as tie
 use Rattle.cutter.proofs.moved.Reads as reads
 use Rattle.cutter.proofs.moved.Lts as lts
 use Rattle.cutter.proofs.bid_break.Reads as bid-break-reads
-use Rattle.cutter.proofs.bid_count.Reads as bid-count-reads
 use Rattle.cutter.proofs.step_after.Reads as step-after-reads
 
--- src/lib.rt:105:31
-bid-count-requires : tie.Need-bid-count-requires
-bid-count-requires c κs = search needs
+count-of-requires : tie.Need-count-of-requires
+count-of-requires c κs = search needs
 
--- src/lib.rt:105:31
 sub-step-after : tie.Need-sub-step-after
 sub-step-after c = search needs
 
--- src/lib.rt:105:9
 step-after-requires : tie.Need-step-after-requires
-step-after-requires c κs = (omega (arith, c .bid-count .ensures, c .before .before .pre .1), omega (arith, c .bid-count .ensures, c .before .before .pre .0 .few), c .before .before .pre .2)
+step-after-requires c κs = (omega (arith, c .count-of .ensures, c .before .before .pre .1), omega (arith, c .count-of .ensures, c .before .before .pre .0 .few), c .before .before .pre .2)
 
--- src/lib.rt:108:15
 bid-break-requires : tie.Need-bid-break-requires
-bid-break-requires c κs = (c .before .before .before .pre .0 .long, c .before .before .before .pre .0 .schedule, after-below _ _ _ (c .step-after .ensures) (c .before .bid-count .ensures) (c .before .before .before .pre .0 .some) (c .before .before .before .pre .0 .few))
+bid-break-requires c κs = (c .before .before .before .pre .0 .long, c .before .before .before .pre .0 .schedule, after-below _ _ _ (c .step-after .ensures) (c .before .count-of .ensures) (c .before .before .before .pre .0 .some) (c .before .before .before .pre .0 .few))
 
--- src/lib.rt:101:1
 returns : tie.Need-returns
-returns c = moved-is _ _ _ _ (c .before .before .bid-count .ensures) (c .before .step-after .ensures) (c .bid-break .ensures)
+returns c = moved-is _ _ _ _ (c .before .before .count-of .ensures) (c .before .step-after .ensures) (c .bid-break .ensures)
 
 pub moved-spec : {M : Type 1} → statement M
 moved-spec =
     tie.close
-    (tie.spec bid-count-requires sub-step-after step-after-requires bid-break-requires returns)
+    (tie.spec count-of-requires sub-step-after step-after-requires bid-break-requires returns)

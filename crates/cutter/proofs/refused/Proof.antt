@@ -1,6 +1,4 @@
 -- `cutter::refused` meets its contract.
-use native.Mathlib.Omega.{arith}
-use borrow.Author.Needs.{needs}
 use mathlib.Core.Path.{refl}
 use Rattle.rules.specs.Cutting.{cutRefused}
 use Rattle.cutter.proofs.refused.Statement.{statement}
@@ -8,7 +6,6 @@ use Rattle.cutter.proofs.refused.Tie as tie
 use Rattle.cutter.proofs.refused.Reads as reads
 use Rattle.cutter.proofs.refused.Lts as lts
 
--- src/lib.rt:269:1
 returns : tie.Need-returns
 unfolding cutRefused
 returns c = refl

@@ -1,17 +1,13 @@
 -- `cutter::same` meets its contract.
-use native.Mathlib.Omega.{arith}
-use borrow.Author.Needs.{needs}
 use Rattle.cutter.proofs.Moves.{bit-eq, bit-ne}
 use Rattle.cutter.proofs.same.Statement.{statement}
 use Rattle.cutter.proofs.same.Tie as tie
 use Rattle.cutter.proofs.same.Reads as reads
 use Rattle.cutter.proofs.same.Lts as lts
 
--- src/lib.rt:76:9
 returns : tie.Need-returns
 returns c = bit-eq _ _ (c .if1 .taken)
 
--- src/lib.rt:72:1
 returns-2 : tie.Need-returns-2
 returns-2 c = bit-ne _ _ (c .if1 .left)
 

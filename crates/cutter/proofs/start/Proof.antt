@@ -1,6 +1,5 @@
 -- `cutter::start` meets its contract.
 use native.Mathlib.Omega.{arith}
-use borrow.Author.Needs.{needs}
 use Rattle.cutter.proofs.Moves.{bid-read, start-is}
 use Rattle.cutter.proofs.start.Statement.{statement}
 use Rattle.cutter.proofs.start.Tie as tie
@@ -8,27 +7,21 @@ use Rattle.cutter.proofs.start.Reads as reads
 use Rattle.cutter.proofs.start.Lts as lts
 use Rattle.cutter.proofs.cursor_start.Reads as cursor-start-reads
 
--- src/lib.rt:129:16
 cursor-start-requires : tie.Need-cursor-start-requires
 cursor-start-requires c κs = bid-read (c .before .pre) 0 (omega arith)
 
--- src/lib.rt:130:17
 cursor-start-requires-2 : tie.Need-cursor-start-requires-2
 cursor-start-requires-2 c κs = bid-read (c .before .before .pre) 1 (omega arith)
 
--- src/lib.rt:131:16
 cursor-start-requires-3 : tie.Need-cursor-start-requires-3
 cursor-start-requires-3 c κs = bid-read (c .before .before .before .pre) 2 (omega arith)
 
--- src/lib.rt:132:17
 cursor-start-requires-4 : tie.Need-cursor-start-requires-4
 cursor-start-requires-4 c κs = bid-read (c .before .before .before .before .pre) 3 (omega arith)
 
--- src/lib.rt:133:16
 cursor-start-requires-5 : tie.Need-cursor-start-requires-5
 cursor-start-requires-5 c κs = bid-read (c .before .before .before .before .before .pre) 4 (omega arith)
 
--- src/lib.rt:124:1
 returns : tie.Need-returns
 returns c = start-is _ (c .before .before .before .before .before .before .pre) (c .before .before .before .before .cursor-start .ensures) (c .before .before .before .cursor-start2 .ensures) (c .before .before .cursor-start3 .ensures) (c .before .cursor-start4 .ensures) (c .cursor-start5 .ensures)
 

@@ -1,6 +1,5 @@
 -- `cutter::steps` meets its contract.
 use native.Mathlib.Omega.{arith}
-use borrow.Author.Needs.{needs}
 use Prim.Native.Nat.{_-_}
 use Rattle.rules.specs.Steps.{stepCount}
 use Rattle.cutter.specs.Ends.{count-most}
@@ -22,71 +21,54 @@ Inv-loop line hedge ends₀ prices₀ words₀ at₀ end₀ far₀ n₀ ends pri
 abbrev μ-loop : tie.MeasureT-loop
 μ-loop line hedge ends₀ prices₀ words₀ at₀ end₀ far₀ n₀ ends prices words at end far n = stepCount line - n
 
--- src/lib.rt:229:9
 word-at-requires : tie.Need-word-at-requires Inv-loop μ-loop
 word-at-requires c κs = omega (arith, c .before .pre .long)
 
--- src/lib.rt:239:9
 start-requires : tie.Need-start-requires Inv-loop μ-loop
 start-requires c κs = c .before .before .pre
 
--- src/lib.rt:241:9
 next-gap-requires : tie.Need-next-gap-requires Inv-loop μ-loop
 next-gap-requires c κs = limited-none (c .before .before .before .pre) (c .before .word-at .ensures) (c .start .ensures)
 
--- src/lib.rt:243:5
 loop-holds : tie.Need-loop-holds Inv-loop μ-loop
 loop-holds c = swept-none _ _ _ _ (c .before .before .word-at .ensures) (c .before .start .ensures) (c .next-gap .ensures)
 
--- src/lib.rt:244:15
 add-end : tie.Need-add-end Inv-loop μ-loop
 add-end c = omega (arith, end-limit (c .before .before .before .before .before .before .pre) (c .before .loop .inv) (c .loop-test .taken))
 
--- src/lib.rt:244:15
 add-end-2 : tie.Need-add-end-2 Inv-loop μ-loop
 add-end-2 c = omega (arith, end-limit (c .before .before .before .before .before .before .pre) (c .before .loop .inv) (c .loop-test .taken))
 
--- src/lib.rt:245:9
 mul-ends : tie.Need-mul-ends Inv-loop μ-loop
 mul-ends c = omega (arith, room (c .before .before .before .before .before .before .pre) (c .before .loop .inv) (c .loop-test .taken))
 
--- src/lib.rt:245:9
 array-write-ends : tie.Need-array-write-ends Inv-loop μ-loop
 array-write-ends c = omega (arith, room (c .before .before .before .before .before .before .pre) (c .before .loop .inv) (c .loop-test .taken))
 
--- src/lib.rt:246:9
 put-prices-requires : tie.Need-put-prices-requires Inv-loop μ-loop
 put-prices-requires c κs = (c .before .before .before .before .before .before .before .pre, at-within (c .before .before .before .before .before .before .before .pre) (c .before .before .loop .inv) (c .before .loop-test .taken), room (c .before .before .before .before .before .before .before .pre) (c .before .before .loop .inv) (c .before .loop-test .taken))
 
--- src/lib.rt:247:9
 marked-requires : tie.Need-marked-requires Inv-loop μ-loop
 marked-requires c κs = markable (c .before .before .before .before .before .before .before .before .pre) (c .before .before .before .loop .inv) (c .before .before .loop-test .taken)
 
--- src/lib.rt:248:9
 passed-requires : tie.Need-passed-requires Inv-loop μ-loop
 passed-requires c κs = (c .before .before .before .before .before .before .before .before .before .pre, at-within (c .before .before .before .before .before .before .before .before .before .pre) (c .before .before .before .before .loop .inv) (c .before .before .before .loop-test .taken), omega (arith, end-limit (c .before .before .before .before .before .before .before .before .before .pre) (c .before .before .before .before .loop .inv) (c .before .before .before .loop-test .taken)))
 
--- src/lib.rt:249:9
 next-gap-requires-2 : tie.Need-next-gap-requires-2 Inv-loop μ-loop
 next-gap-requires-2 c κs = limited (c .before .before .before .before .before .before .before .before .before .before .pre) (c .before .before .before .before .before .loop .inv) (c .before .before .before .before .loop-test .taken) (c .before .before .before .before .before .before .before .before .word-at .ensures) (c .passed .ensures)
 
--- src/lib.rt:250:9
 add-n : tie.Need-add-n Inv-loop μ-loop
 add-n c = omega (arith, room (c .before .before .before .before .before .before .before .before .before .before .before .pre) (c .before .before .before .before .before .before .loop .inv) (c .before .before .before .before .before .loop-test .taken))
 
--- src/lib.rt:243:5
 loop-less : tie.Need-loop-less Inv-loop μ-loop
 loop-less c = omega (arith, below-count (c .before .before .before .before .before .before .before .before .before .before .before .pre) (c .before .before .before .before .before .before .loop .inv) (c .before .before .before .before .before .loop-test .taken))
 
--- src/lib.rt:243:5
 loop-again : tie.Need-loop-again Inv-loop μ-loop
 loop-again c = swept-more (c .before .before .before .before .before .before .before .before .before .before .before .pre) (c .before .before .before .before .before .before .loop .inv) (c .before .before .before .before .before .loop-test .taken) (c .before .before .before .before .before .before .before .before .before .word-at .ensures) (c .before .before .before .put-prices .ensures) (c .before .before .marked .ensures) (c .before .passed .ensures) (c .next-gap2 .ensures)
 
--- src/lib.rt:254:16
 cast-t17 : tie.Need-cast-t17 Inv-loop μ-loop
 cast-t17 c = omega (arith, c .before .loop .inv .within, count-most _ (c .before .before .before .before .before .before .pre .accepted))
 
--- src/lib.rt:225:1
 returns : tie.Need-returns Inv-loop μ-loop
 returns c = swept-all (c .before .before .before .before .before .before .before .before .before .before .before .pre) (c .before .before .before .before .before .before .loop .inv) (c .before .before .before .before .before .loop-test .left)
 

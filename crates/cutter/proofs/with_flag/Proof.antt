@@ -1,5 +1,4 @@
 -- `cutter::with_flag` meets its contract.
-use native.Mathlib.Omega.{arith}
 use borrow.Author.Needs.{needs}
 use Rattle.cutter.proofs.Moves.{flag-put}
 use Rattle.cutter.proofs.with_flag.Statement.{statement}
@@ -7,11 +6,9 @@ use Rattle.cutter.proofs.with_flag.Tie as tie
 use Rattle.cutter.proofs.with_flag.Reads as reads
 use Rattle.cutter.proofs.with_flag.Lts as lts
 
--- src/lib.rt:195:13
 shl-result : tie.Need-shl-result
 shl-result c = search needs
 
--- src/lib.rt:191:1
 returns : tie.Need-returns
 returns c = flag-put _ _ _ (c .pre)
 

@@ -3,19 +3,19 @@ use Prim.Native.Nat.{_-_, _≤_}
 use mathlib.Core.Path.{_≡_, refl}
 use native.Mathlib.Omega.{arith}
 use borrow.Author.Needs.{needs}
-use Rattle.rules.specs.Fold.{first, at}
+use Rattle.rules.specs.Fold.{first}
 use Rattle.rules.specs.Refusals.{breakFault, bidFault}
 use Rattle.laws.specs.Folds.{fold-begins, fold-goes, fold-stops, fold-ends, all-passed}
 use Rattle.line.specs.Parts.{lineFrom}
-use Rattle.line.proofs.Laws.{bid-empty, bid-many, bid-break, bid-slots, line-head, line-bid, line-tail, lent-is, lent-length}
+use Rattle.line.proofs.Laws.{count-few, bid-count, bid-break, bid-slots, line-head, line-bid, line-tail, lent-is, lent-length}
 use Rattle.line.proofs.lines_number.Statement.{statement}
 use Rattle.line.proofs.lines_number.Tie as tie
 
 abbrev Inv-loop2 : tie.InvT-loop2
-Inv-loop2 b at n k from line head s count j₀ j = (j ≤ count) × (first (breakFault line s) j ≡ 0)
+Inv-loop2 b at n k from line head s count counted j₀ j = (j ≤ count) × (first (breakFault line s) j ≡ 0)
 
 abbrev μ-loop2 : tie.MeasureT-loop2
-μ-loop2 b at n k from line head s count j₀ j = count - j
+μ-loop2 b at n k from line head s count counted j₀ j = count - j
 
 abbrev Inv-loop : tie.InvT-loop
 Inv-loop b at n k from line head s₀ s = (s ≤ 5) × (first (bidFault line) s ≡ 0)
@@ -45,22 +45,22 @@ loop2-holds : tie.Need-loop2-holds Inv-loop2 μ-loop2 Inv-loop μ-loop Inv-lines
 loop2-holds c = fold-begins _ _ _ refl
 
 break-number-requires : tie.Need-break-number-requires Inv-loop2 μ-loop2 Inv-loop μ-loop Inv-lines μ-lines
-break-number-requires c κs = ((lent-length _ _ _ _ (omega arith) (c .before .before .before .before .before .before .before .before .before .before .before .before .before .pre .1)), c .before .before .before .before .before .loop-test .taken, omega arith)
+break-number-requires c κs = ((lent-length _ _ _ _ (omega arith) (c .before .before .before .before .before .before .before .before .before .before .before .before .before .pre .1)), c .before .before .before .before .before .loop-test .taken, omega (arith, count-few _ _ (c .before .before .before .count-number .ensures) (c .before .before .if3 .left)))
 
 loop2-again : tie.Need-loop2-again Inv-loop2 μ-loop2 Inv-loop μ-loop Inv-lines μ-lines
-loop2-again c = fold-goes _ _ _ _ (c .before .before .before .loop2 .inv .1) (c .before .before .loop2-test .taken) (c .before .break-number .ensures) (c .if5 .left)
+loop2-again c = fold-goes _ _ _ _ (c .before .before .before .loop2 .inv .1) (c .before .before .loop2-test .taken) (c .before .break-number .ensures) (c .if4 .left)
 
 slots-number-requires : tie.Need-slots-number-requires Inv-loop2 μ-loop2 Inv-loop μ-loop Inv-lines μ-lines
-slots-number-requires c κs = ((lent-length _ _ _ _ (omega arith) (c .before .before .before .before .before .before .before .before .before .before .before .before .before .pre .1)), c .before .before .before .before .before .loop-test .taken, c .before .before .if4 .left, c .before .before .before .before .count-of .ensures)
+slots-number-requires c κs = ((lent-length _ _ _ _ (omega arith) (c .before .before .before .before .before .before .before .before .before .before .before .before .before .pre .1)), c .before .before .before .before .before .loop-test .taken, count-few _ _ (c .before .before .before .count-number .ensures) (c .before .before .if3 .left), c .before .before .before .before .count-of .ensures)
 
 loop-again : tie.Need-loop-again Inv-loop2 μ-loop2 Inv-loop μ-loop Inv-lines μ-lines
-loop-again c = fold-goes _ _ _ _ (c .before .before .before .before .before .before .before .before .loop .inv .1) (c .before .before .before .before .before .before .before .loop-test .taken) (bid-slots _ _ _ (c .before .before .before .before .before .before .count-of .ensures) (c .before .before .before .before .before .if3 .left) (c .before .before .before .before .if4 .left) (fold-ends _ _ _ (c .before .before .before .loop2 .inv .1) (c .before .before .before .loop2 .inv .0) (c .before .before .loop2-test .left)) _ (c .before .slots-number .ensures)) (c .if6 .left)
+loop-again c = fold-goes _ _ _ _ (c .before .before .before .before .before .before .before .before .loop .inv .1) (c .before .before .before .before .before .before .before .loop-test .taken) (bid-slots _ _ _ (c .before .before .before .before .before .before .count-of .ensures) _ (c .before .before .before .before .before .count-number .ensures) (c .before .before .before .before .if3 .left) (fold-ends _ _ _ (c .before .before .before .loop2 .inv .1) (c .before .before .before .loop2 .inv .0) (c .before .before .loop2-test .left)) _ (c .before .slots-number .ensures)) (c .if5 .left)
 
 tail-number-requires : tie.Need-tail-number-requires Inv-loop2 μ-loop2 Inv-loop μ-loop Inv-lines μ-lines
-tail-number-requires c κs = ((lent-length _ _ _ _ (omega arith) (c .before .before .before .before .before .before .before .before .pre .1)), all-passed _ _ _ (c .before .loop .inv .1) (c .before .loop .inv .0) (c .loop-test .left))
+tail-number-requires c κs = ((lent-length _ _ _ _ (omega arith) (c .before .before .before .before .before .before .before .before .pre .1)), (all-passed _ _ _ (c .before .loop .inv .1) (c .before .loop .inv .0) (c .loop-test .left)))
 
 lines-again : tie.Need-lines-again Inv-loop2 μ-loop2 Inv-loop μ-loop Inv-lines μ-lines
-lines-again c = fold-goes _ _ _ _ (c .before .before .before .before .before .before .before .before .lines .inv .1) (omega arith) (lent-is _ _ _ _ (line-tail _ _ (c .before .before .before .before .before .head-number .ensures) (c .before .before .before .before .if2 .left) _ (all-passed _ _ _ (c .before .before .before .loop .inv .1) (c .before .before .before .loop .inv .0) (c .before .before .loop-test .left)) (c .before .tail-number .ensures))) (c .if7 .left)
+lines-again c = fold-goes _ _ _ _ (c .before .before .before .before .before .before .before .before .lines .inv .1) (omega arith) (lent-is _ _ _ _ (line-tail _ _ (c .before .before .before .before .before .head-number .ensures) (c .before .before .before .before .if2 .left) _ (all-passed _ _ _ (c .before .before .before .loop .inv .1) (c .before .before .before .loop .inv .0) (c .before .before .loop-test .left)) (c .before .tail-number .ensures))) (c .if6 .left)
 
 returns : tie.Need-returns Inv-loop2 μ-loop2 Inv-loop μ-loop Inv-lines μ-lines
 returns c = fold-ends _ _ _ (c .before .lines .inv .1) (c .before .lines .inv .0) (c .if1 .taken)
@@ -69,19 +69,16 @@ returns-2 : tie.Need-returns-2 Inv-loop2 μ-loop2 Inv-loop μ-loop Inv-lines μ-
 returns-2 c = fold-stops _ _ _ _ (c .before .before .before .before .lines .inv .1) (omega arith) (lent-is _ _ _ _ (line-head _ _ (c .before .head-number .ensures) (c .if2 .taken))) (c .if2 .taken)
 
 returns-3 : tie.Need-returns-3 Inv-loop2 μ-loop2 Inv-loop μ-loop Inv-lines μ-lines
-returns-3 c = fold-stops _ _ _ _ (c .before .before .before .before .before .before .before .before .lines .inv .1) (omega arith) (lent-is _ _ _ _ (line-bid _ _ (c .before .before .before .before .before .head-number .ensures) (c .before .before .before .before .if2 .left) _ _ (c .before .before .before .loop .inv .1) (c .before .before .loop-test .taken) (bid-empty _ _ _ (c .before .count-of .ensures) (c .if3 .taken)) (λ e. omega arith))) (λ e. omega arith)
+returns-3 c = fold-stops _ _ _ _ (c .before .before .before .before .before .before .before .before .before .lines .inv .1) (omega arith) (lent-is _ _ _ _ (line-bid _ _ (c .before .before .before .before .before .before .head-number .ensures) (c .before .before .before .before .before .if2 .left) _ _ (c .before .before .before .before .loop .inv .1) (c .before .before .before .loop-test .taken) (bid-count _ _ _ (c .before .before .count-of .ensures) _ (c .before .count-number .ensures) (c .if3 .taken)) (c .if3 .taken))) (c .if3 .taken)
 
 returns-4 : tie.Need-returns-4 Inv-loop2 μ-loop2 Inv-loop μ-loop Inv-lines μ-lines
-returns-4 c = fold-stops _ _ _ _ (c .before .before .before .before .before .before .before .before .before .lines .inv .1) (omega arith) (lent-is _ _ _ _ (line-bid _ _ (c .before .before .before .before .before .before .head-number .ensures) (c .before .before .before .before .before .if2 .left) _ _ (c .before .before .before .before .loop .inv .1) (c .before .before .before .loop-test .taken) (bid-many _ _ _ (c .before .before .count-of .ensures) (c .before .if3 .left) (c .if4 .taken)) (λ e. omega arith))) (λ e. omega arith)
+returns-4 c = fold-stops _ _ _ _ (c .before .before .before .before .before .before .before .before .before .before .before .before .before .lines .inv .1) (omega arith) (lent-is _ _ _ _ (line-bid _ _ (c .before .before .before .before .before .before .before .before .before .before .head-number .ensures) (c .before .before .before .before .before .before .before .before .before .if2 .left) _ _ (c .before .before .before .before .before .before .before .before .loop .inv .1) (c .before .before .before .before .before .before .before .loop-test .taken) (bid-break _ _ _ (c .before .before .before .before .before .before .count-of .ensures) _ (c .before .before .before .before .before .count-number .ensures) (c .before .before .before .before .if3 .left) _ (fold-stops _ _ _ _ (c .before .before .before .loop2 .inv .1) (c .before .before .loop2-test .taken) (c .before .break-number .ensures) (c .if4 .taken)) (c .if4 .taken)) (c .if4 .taken))) (c .if4 .taken)
 
 returns-5 : tie.Need-returns-5 Inv-loop2 μ-loop2 Inv-loop μ-loop Inv-lines μ-lines
-returns-5 c = fold-stops _ _ _ _ (c .before .before .before .before .before .before .before .before .before .before .before .before .before .lines .inv .1) (omega arith) (lent-is _ _ _ _ (line-bid _ _ (c .before .before .before .before .before .before .before .before .before .before .head-number .ensures) (c .before .before .before .before .before .before .before .before .before .if2 .left) _ _ (c .before .before .before .before .before .before .before .before .loop .inv .1) (c .before .before .before .before .before .before .before .loop-test .taken) (bid-break _ _ _ (c .before .before .before .before .before .before .count-of .ensures) (c .before .before .before .before .before .if3 .left) (c .before .before .before .before .if4 .left) _ (fold-stops _ _ _ _ (c .before .before .before .loop2 .inv .1) (c .before .before .loop2-test .taken) (c .before .break-number .ensures) (c .if5 .taken)) (c .if5 .taken)) (c .if5 .taken))) (c .if5 .taken)
+returns-5 c = fold-stops _ _ _ _ (c .before .before .before .before .before .before .before .before .before .before .before .before .before .lines .inv .1) (omega arith) (lent-is _ _ _ _ (line-bid _ _ (c .before .before .before .before .before .before .before .before .before .before .head-number .ensures) (c .before .before .before .before .before .before .before .before .before .if2 .left) _ _ (c .before .before .before .before .before .before .before .before .loop .inv .1) (c .before .before .before .before .before .before .before .loop-test .taken) (bid-slots _ _ _ (c .before .before .before .before .before .before .count-of .ensures) _ (c .before .before .before .before .before .count-number .ensures) (c .before .before .before .before .if3 .left) (fold-ends _ _ _ (c .before .before .before .loop2 .inv .1) (c .before .before .before .loop2 .inv .0) (c .before .before .loop2-test .left)) _ (c .before .slots-number .ensures)) (c .if5 .taken))) (c .if5 .taken)
 
 returns-6 : tie.Need-returns-6 Inv-loop2 μ-loop2 Inv-loop μ-loop Inv-lines μ-lines
-returns-6 c = fold-stops _ _ _ _ (c .before .before .before .before .before .before .before .before .before .before .before .before .before .lines .inv .1) (omega arith) (lent-is _ _ _ _ (line-bid _ _ (c .before .before .before .before .before .before .before .before .before .before .head-number .ensures) (c .before .before .before .before .before .before .before .before .before .if2 .left) _ _ (c .before .before .before .before .before .before .before .before .loop .inv .1) (c .before .before .before .before .before .before .before .loop-test .taken) (bid-slots _ _ _ (c .before .before .before .before .before .before .count-of .ensures) (c .before .before .before .before .before .if3 .left) (c .before .before .before .before .if4 .left) (fold-ends _ _ _ (c .before .before .before .loop2 .inv .1) (c .before .before .before .loop2 .inv .0) (c .before .before .loop2-test .left)) _ (c .before .slots-number .ensures)) (c .if6 .taken))) (c .if6 .taken)
-
-returns-7 : tie.Need-returns-7 Inv-loop2 μ-loop2 Inv-loop μ-loop Inv-lines μ-lines
-returns-7 c = fold-stops _ _ _ _ (c .before .before .before .before .before .before .before .before .lines .inv .1) (omega arith) (lent-is _ _ _ _ (line-tail _ _ (c .before .before .before .before .before .head-number .ensures) (c .before .before .before .before .if2 .left) _ (all-passed _ _ _ (c .before .before .before .loop .inv .1) (c .before .before .before .loop .inv .0) (c .before .before .loop-test .left)) (c .before .tail-number .ensures))) (c .if7 .taken)
+returns-6 c = fold-stops _ _ _ _ (c .before .before .before .before .before .before .before .before .lines .inv .1) (omega arith) (lent-is _ _ _ _ (line-tail _ _ (c .before .before .before .before .before .head-number .ensures) (c .before .before .before .before .if2 .left) _ (all-passed _ _ _ (c .before .before .before .loop .inv .1) (c .before .before .before .loop .inv .0) (c .before .before .loop-test .left)) (c .before .tail-number .ensures))) (c .if6 .taken)
 
 pub lines-number-spec : {M : Type 1} → statement M
 lines-number-spec =
@@ -103,6 +100,7 @@ lines-number-spec =
     head-number-requires
     loop-holds
     count-of-requires
+    (λ c κs. search needs)
     loop2-holds
     break-number-requires
     (λ c. search needs)
@@ -121,5 +119,4 @@ lines-number-spec =
     returns-3
     returns-4
     returns-5
-    returns-6
-    returns-7)
+    returns-6)

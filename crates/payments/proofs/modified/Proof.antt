@@ -2,7 +2,7 @@
 use borrow.Author.Needs.{needs}
 use Rattle.rules.specs.Payments.{modified}
 use Rattle.payments.specs.Kinds.{modified-within}
-use Rattle.payments.proofs.Settling.{signable, money-back}
+use Rattle.payments.proofs.Signing.{signable, money-back}
 use Rattle.payments.proofs.modified.Statement.{statement}
 use Rattle.payments.proofs.modified.Tie as tie
 

@@ -4,7 +4,8 @@ use borrow.Author.Needs.{needs}
 use Prim.Native.Nat.{_+_, _*_}
 use mathlib.Core.Path.{_≡_, _∙_, ap}
 use denote.Ref.{now}
-use Rattle.report.specs.BookText.{moneyAt, moneysAt}
+use Rattle.bookbytes.specs.Reading.{signedAt}
+use Rattle.report.specs.BookText.{moneysAt}
 use Rattle.report.proofs.Signs.{read-back, five-same}
 use Rattle.report.proofs.five_at.Statement.{statement}
 use Rattle.report.proofs.five_at.Tie as tie
@@ -22,8 +23,8 @@ returns c =
     let e₀ : at ≡ at + 0 * step = omega arith in
     let e₁ : at + step ≡ at + 1 * step = omega arith in
     five-same (moneysAt b at step)
-    (read-back (c4 .signed-at .ok) (c4 .signed-at .ensures ∙ ap (moneyAt b) e₀))
-    (read-back (c3 .signed-at2 .ok) (c3 .signed-at2 .ensures ∙ ap (moneyAt b) e₁))
+    (read-back (c4 .signed-at .ok) (c4 .signed-at .ensures ∙ ap (signedAt b) e₀))
+    (read-back (c3 .signed-at2 .ok) (c3 .signed-at2 .ensures ∙ ap (signedAt b) e₁))
     (read-back (c2 .signed-at3 .ok) (c2 .signed-at3 .ensures))
     (read-back (c1 .signed-at4 .ok) (c1 .signed-at4 .ensures))
     (read-back (c .signed-at5 .ok) (c .signed-at5 .ensures))

@@ -1,0 +1,2 @@
+-- Laws that the proofs of `finals` cite.
+pub mod Settling

@@ -1,0 +1,2 @@
+-- What the contracts of `finals` cite beside `rules` and `payments`.
+pub mod Amounts
