@@ -1,2 +1,3 @@
 -- Laws that the proofs of `finals` cite.
 pub mod Settling
+pub mod Kept

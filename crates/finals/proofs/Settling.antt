@@ -52,7 +52,7 @@ shared-total p s =
     (total-by (at (p .differs) s) (at (p .plus) s - at (p .minus) s))
 
 -- the fall counts only where the initial payment takes something back
-no-taking : (a : Bool) (x y : ℕ) → cond (a && false) x y ≡ y
+pub no-taking : (a : Bool) (x y : ℕ) → cond (a && false) x y ≡ y
 no-taking true x y = refl
 no-taking false x y = refl
 

@@ -1,10 +1,12 @@
 -- Rows of five as the code has them: sums of two, pools of a side, and what the final payments take back.
 use Prim.Native.Nat.{ℕ, _+_, _*_, _-_, _≤_, _<_, _^_, max}
-use mathlib.Core.Bool.{cond, not}
+use mathlib.Core.Bool.{Bool, cond, not}
 use mathlib.Core.List.{List}
+use mathlib.Core.Path.{_≡_}
 use lib.Dec.{eqb, ltb}
 use lib.IntN.{ℤ, subℕ}
-use Rattle.rules.specs.Fold.{five, at, eqbZ}
+use Rattle.rules.specs.Fold.{mostTo, five, at, eqbZ}
+use Rattle.laws.specs.Ints.{mi}
 use Rattle.rules.specs.Layout.{quantityMost, priceMost, mostLines}
 use Rattle.rules.specs.Matching.{rise, fall}
 use Rattle.rules.specs.Payments.{Pool, bit, initial, revised, finalPayment}
@@ -97,3 +99,11 @@ pub record InPool (x : Step) (p : SidePool) : Type 0 where
   pub rising : (s : ℕ) → s < 5 → at (p .rises) s ≤ mostLines * quantityMost
   pub falling : (s : ℕ) → s < 5 → at (p .falls) s ≤ mostLines * quantityMost
   pub paying : (s : ℕ) → s < 5 → at (p .plus) s ≤ mostLines * (quantityMost * priceMost)
+
+-- whether a row of five is 0 throughout
+unfoldable pub allZero : List ℕ → Bool
+allZero v = eqb (mostTo 5 (at v)) 0
+
+-- a step whose initial payments take nothing back
+pub record Kept (x : Step) : Type 0 where
+  pub none : (s : ℕ) → s < 5 → mi (initial x s) ≡ 0

@@ -8,6 +8,7 @@ use numbers::share;
 use numbers::wide;
 use payments::Money;
 use payments::falls;
+use payments::initial_money;
 use payments::modified_minus;
 use payments::only_paid;
 use payments::products;
@@ -25,7 +26,7 @@ ghost use Rattle.rules.specs.Fold.{five, at};
 ghost use Rattle.rules.specs.Payments as paper;
 ghost use Rattle.payments.specs.Sizes.{Sized};
 ghost use Rattle.payments.specs.Parts.{takenBack};
-ghost use Rattle.payments.specs.Amounts.{moneyOf};
+ghost use Rattle.payments.specs.Amounts.{moneyOf, plusOf};
 ghost use Rattle.finals.specs.Amounts.{
   sumIn,
   differIn,
@@ -36,6 +37,8 @@ ghost use Rattle.finals.specs.Amounts.{
   baseIn,
   takenIn,
   finalOn,
+  allZero,
+  Kept,
   Sharing,
   InPool,
   Addable,
@@ -81,8 +84,34 @@ fn widened(q: [u32; 5]) -> [u64; 5]
     [wide(q[0]), wide(q[1]), wide(q[2]), wide(q[3]), wide(q[4])]
 }
 
-// What one step adds to its side's pool.
-pub fn step_pool(x: Step) -> SidePool
+// Whether all five are 0.
+fn none(v: [u64; 5]) -> bool
+    ensures { λ r. ⌜ r ≡ allZero v ⌝ }
+{
+    let a = greater64(v[0], v[1]);
+    let b = greater64(a, v[2]);
+    let c = greater64(b, v[3]);
+    greater64(c, v[4]) == 0
+}
+
+// What a step adds to its side's pool where no initial payment takes something back: its revised payments are the initial ones.
+fn kept_pool(x: Step, plus: [u64; 5]) -> SidePool
+    requires { ⌜ (plus ≡ five (plusOf (paper.initial x))) × (Kept x) ⌝ }
+    ensures { λ r. ⌜ r ≡ stepPool x ⌝ }
+{
+    let c = constrained_on(x);
+    let paid = x.paid;
+    SidePool {
+        plus: plus,
+        minus: [0; 5],
+        rises: widened(only_paid(paid, rises(c))),
+        falls: widened(only_paid(paid, falls(c))),
+        differs: [0; 5],
+    }
+}
+
+// What any step adds to its side's pool.
+fn full_pool(x: Step) -> SidePool
     requires { ⌜ Sized x ⌝ }
     ensures { λ r. ⌜ r ≡ stepPool x ⌝ }
 {
@@ -99,6 +128,20 @@ pub fn step_pool(x: Step) -> SidePool
         falls: widened(fall),
         differs: differing(minus, products(fall, rate)),
     }
+}
+
+// What one step adds to its side's pool. Most take nothing back, and need no matches.
+pub fn step_pool(x: Step) -> SidePool
+    requires { ⌜ Sized x ⌝ }
+    ensures { λ r. ⌜ r ≡ stepPool x ⌝ }
+{
+    let initial = initial_money(x);
+    let plus = initial.plus;
+    let minus = initial.minus;
+    if none(minus) {
+        return kept_pool(x, plus);
+    }
+    full_pool(x)
 }
 
 fn add_rows(a: [u64; 5], b: [u64; 5]) -> [u64; 5]
@@ -259,8 +302,8 @@ fn final_minus(
     ]
 }
 
-// The final payments of a step, from the clawback switch and its side's pool.
-pub fn final_money(x: Step, claw: u32, p: SidePool) -> Money
+// The final payments of any step, from the clawback switch and its side's pool.
+fn full_money(x: Step, claw: u32, p: SidePool) -> Money
     requires { ⌜ (Sized x) × (InPool x p) ⌝ }
     ensures { λ r. ⌜ r ≡ moneyOf (finalOn x claw p) ⌝ }
 {
@@ -286,6 +329,19 @@ pub fn final_money(x: Step, claw: u32, p: SidePool) -> Money
             bases(p),
         ),
     }
+}
+
+// The same. Most steps take nothing back: their final payments are the initial ones.
+pub fn final_money(x: Step, claw: u32, p: SidePool) -> Money
+    requires { ⌜ (Sized x) × (InPool x p) ⌝ }
+    ensures { λ r. ⌜ r ≡ moneyOf (finalOn x claw p) ⌝ }
+{
+    let initial = initial_money(x);
+    let minus = initial.minus;
+    if none(minus) {
+        return initial;
+    }
+    full_money(x, claw, p)
 }
 
 // The final payments, signed.

@@ -1,48 +1,32 @@
--- `finals::step_pool` meets its contract, row by row.
-use mathlib.Core.Path.{_∙_}
-use Rattle.rules.specs.Matching.{rise, fall}
-use Rattle.matching.specs.Ledgers.{matchRow}
-use Rattle.payments.specs.Parts.{changeOn}
-use Rattle.finals.specs.Amounts.{stepPool}
-use Rattle.payments.proofs.Joining.{change-row, plus-row, revised-pays, minus-row}
-use Rattle.finals.proofs.Settling.{wide-row, differ-row}
+-- `finals::step_pool` meets its contract: by whether something is taken back.
+use mathlib.Core.Path.{sym, _∙_, ap}
+use borrow.Author.Needs.{needs}
+use Rattle.payments.specs.Amounts.{moneyOf}
+use Rattle.finals.proofs.Kept.{kept-row}
+use Rattle.payments.specs.declared.Money.{Money}
 use Rattle.finals.proofs.step_pool.Statement.{statement}
 use Rattle.finals.proofs.step_pool.Tie as tie
 
-revised-minus-requires : tie.Need-revised-minus-requires
-unfolding matchRow
-revised-minus-requires c κs = (c .before .before .before .before .before .before .before .before .pre, rw (c .match-table .ensures, c .before .before .before .before .before .before .before .constrained-on .ensures))
+kept-pool-requires : tie.Need-kept-pool-requires
+unfolding moneyOf
+kept-pool-requires c κs = ((ap (λ (m : Money). m .plus) (c .before .before .before .before .initial-money .ensures)), (kept-row (c .before .before .before .before .before .args .x) _ (ap (λ (m : Money). m .minus) (c .before .before .before .before .initial-money .ensures)) (sym (c .if1 .taken) ∙ c .before .none .ensures)))
 
 returns : tie.Need-returns
-unfolding stepPool
-returns c =
-    let x = c .before .before .before .before .before .before .before .before .before .before .before .before .before .before .args .x in
-    let c₀ = c .before .before .before .before .before .before .before .before .before .before .before .before .before .constrained-on .ensures in
-    let rate₀ = c .before .before .before .before .before .before .before .before .before .before .before .rates .ensures in
-    let up = change-row x rise c₀ (c .before .before .before .before .before .before .before .before .before .before .rises .ensures) (c .before .before .before .before .before .before .before .before .before .only-paid .ensures) in
-    let down = change-row x fall c₀ (c .before .before .before .before .before .before .before .before .falls .ensures) (c .before .before .before .before .before .before .before .only-paid2 .ensures) in
-    let minus = c .before .before .before .before .before .revised-minus .ensures in
-    let plus = plus-row x up rate₀ (c .before .before .before .before .products .ensures) ∙ revised-pays x in
-    let rises = wide-row (changeOn rise x) up (c .before .before .before .widened .ensures) in
-    let falls = wide-row (changeOn fall x) down (c .before .before .widened2 .ensures) in
-    let differs = differ-row x minus (minus-row x down rate₀ (c .before .products2 .ensures)) (c .differing .ensures) in
-    λ i. record { plus = plus i; minus = minus i; rises = rises i; falls = falls i; differs = differs i }
+returns c = c .kept-pool .ensures
+
+full-pool-requires : tie.Need-full-pool-requires
+full-pool-requires c κs = c .before .before .before .before .before .pre
+
+returns-2 : tie.Need-returns-2
+returns-2 c = c .full-pool .ensures
 
 pub step-pool-spec : {M : Type 1} → statement M
 step-pool-spec =
     tie.close
     (tie.spec
-    (λ c κs. tt)
-    (λ c κs. tt)
-    (λ c κs. tt)
-    (λ c κs. tt)
-    (λ c κs. tt)
-    (λ c κs. tt)
-    (λ c κs. tt)
-    revised-minus-requires
-    (λ c κs. tt)
-    (λ c κs. tt)
-    (λ c κs. tt)
-    (λ c κs. tt)
-    (λ c κs. tt)
-    returns)
+    (λ c κs. search needs)
+    (λ c κs. search needs)
+    kept-pool-requires
+    returns
+    full-pool-requires
+    returns-2)
