@@ -25,14 +25,14 @@ pub fn k3_to_k7() -> Vec<u8> {
 /// K10's line with one step up to 50 at 40000 in each bid, nothing priced, and these operating totals and actual, all in interval 1.
 fn one_step(own: &[u8], operating: BySchedule<u32>, actual: u32) -> Vec<u8> {
     let mut line = own.to_vec();
-    for s in 0..SCHEDULES {
+    for (s, total) in operating.into_iter().enumerate() {
         put_word(&mut line, count_place(s), 1);
         for (slot, (end, price)) in [(50, 40_000), (0, 0)].into_iter().enumerate() {
             put_word(&mut line, break_place(s, slot), end);
             put_word(&mut line, price_place(s, slot), price);
         }
         for i in 0..SCHEDULES {
-            let quantity = if i == 0 { operating[s] } else { 0 };
+            let quantity = if i == 0 { total } else { 0 };
             put_word(&mut line, operating_place(s, i), quantity);
         }
     }
