@@ -4,7 +4,7 @@ ghost use mathlib.Core.Path.{_≡_};
 ghost use Prim.Native.Nat.{_+_, _*_, _≤_, _<_};
 ghost use lib.ListN.{length};
 ghost use Rattle.rules.specs.Fold.{joined};
-ghost use Rattle.rules.specs.Layout.{lineCount, lineAt};
+ghost use Rattle.rules.specs.Layout.{lineCount};
 ghost use Rattle.rules.specs.Steps.{stepCount};
 ghost use Rattle.laws.specs.Accepted.{AcceptedDay};
 ghost use Rattle.text.specs.Put.{Written};

@@ -4,7 +4,6 @@ use denote.Ref.{now}
 use native.Mathlib.Omega.{arith}
 use borrow.Author.Needs.{needs}
 use Rattle.rules.specs.Steps.{stepCount}
-use Rattle.text.specs.Lines.{line-of}
 use Rattle.steps_text.proofs.Laws.{line-is}
 use Rattle.text.specs.Put.{then, written-as, written-wider}
 use Rattle.pools.proofs.Laws.{line-lies, lent-length, lent-line, count-is, count-few}
