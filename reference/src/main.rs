@@ -1,7 +1,8 @@
 //! The program: reports of days and lines, and generated ones to report on.
 
-use reference::generate::{damaged_day, damaged_line, edge_days, line, valid_day};
+use reference::generate::{damaged_day, damaged_line, edge_days, line, small_day, valid_day};
 use reference::k10::k10;
+use reference::k3_to_k7::k3_to_k7;
 use reference::pack;
 use reference::refusal::day_number;
 use reference::report::{cut_report, settle_report, steps_report, MOST_INPUT};
@@ -10,12 +11,12 @@ use std::process::ExitCode;
 
 const USAGE: &str = "usage: reference settle|steps < DAY
        reference cut < LINE
-       reference day SEED valid|damaged
-       reference days SEED COUNT valid|damaged|mixed
+       reference day SEED valid|small|damaged
+       reference days SEED COUNT valid|small|damaged|mixed
        reference lines SEED COUNT
        reference edges
        reference expect settle|steps|cut|number < PACK
-       reference k10";
+       reference k10|k3-to-k7";
 
 fn main() -> ExitCode {
     let arguments: Vec<String> = std::env::args().skip(1).collect();
@@ -38,6 +39,7 @@ fn main() -> ExitCode {
 fn run(arguments: &[&str], out: &mut impl Write) -> io::Result<bool> {
     match *arguments {
         ["k10"] => out.write_all(&k10())?,
+        ["k3-to-k7"] => out.write_all(&k3_to_k7())?,
         ["edges"] => {
             for day in edge_days() {
                 pack::write(out, &day)?;
@@ -68,6 +70,7 @@ type Draw = fn(u64, u64) -> Vec<u8>;
 fn generator(kind: &str) -> Option<Draw> {
     match kind {
         "valid" => Some(|_, seed| valid_day(seed)),
+        "small" => Some(|_, seed| small_day(seed)),
         "damaged" => Some(|_, seed| damaged_day(seed)),
         "mixed" => Some(|k, seed| match k % 2 {
             0 => valid_day(seed),

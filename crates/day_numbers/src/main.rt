@@ -1,40 +1,24 @@
-// Reads a pack of days on standard input and prints the number of each, one a line. A pack is, for each day, its length as a word and then
-// its bytes. A day broken off, or longer than 131,072 bytes, ends the run.
-
-fn wide(v: u32) -> usize {
-    v as usize
-}
+// Reads a pack of days on standard input and prints the number of each, one a line. A day broken off, or longer than 131,072 bytes, ends
+// the run.
 
 fn long(v: u32) -> u64 {
     v as u64
 }
 
-// Fills the lent bytes with a day and prints its number. Answers whether there were so many.
-fn number(day: &mut [u8]) -> bool {
-    if io::read_full(0, day) < day.len() {
-        return false;
-    }
-    io::print_decimal(1, long(day::day_number(day)));
-    io::write_all(1, b"\n")
-}
-
-// The same for the first `length` of the lent bytes, where they are so many.
-fn entry(space: &mut [u8], length: usize) -> bool {
+// Prints the number of the day that is the first `length` of the lent bytes. Answers whether they are so many.
+fn shown(space: &[u8], length: usize) -> bool {
     if space.len() < length {
         return false;
     }
-    number(&mut space[0..length])
+    io::print_decimal(1, long(day::day_number(&space[0..length])));
+    io::write_all(1, b"\n")
 }
 
-// Reads one day and prints its number. Answers whether there was one.
+// The next day's. Answers whether there was one.
 fn next() -> bool {
-    let mut head = [0u8; 4];
-    if io::read_full(0, &mut head) < 4 {
-        return false;
-    }
-    let length = wide(bytes_le::word_at(&head, 0));
     let mut space = [0u8; 131072];
-    entry(&mut space, length)
+    let length = pack::read(&mut space);
+    shown(&space, length)
 }
 
 // A proved loop has to end, and nothing says that the input does: the turns count down from a number that no run uses up.

@@ -18,8 +18,9 @@ use Rattle.rules.specs.Steps.{stepCount}
 use Rattle.rules.specs.Totals.{linePayment, total, adjustedTotal}
 use Rattle.rules.specs.Book.{bookOf, bookAfter}
 use Rattle.rules.specs.Report.{totalText, adjustedText, numberAfter, fiveNumbers, paymentOf, lineText, settledText, refusedLine, reportText}
-use Rattle.laws.specs.Folds.{joined-none, joined-suc, refuse-false, orElse-zero, orElse-suc}
+use Rattle.laws.specs.Folds.{refuse-false, orElse-zero, orElse-suc}
 use Rattle.laws.specs.Accepted.{accepted-day}
+use Rattle.text.specs.Put.{joined-same}
 use Rattle.text.specs.Lines.{lineTextOf, heading, totalsText, line-of}
 use Rattle.bookbytes.specs.Reading.{signedAt}
 use Rattle.bookbytes.specs.Framing.{totalAt, adjustedAt, entryAt, paymentAt, book-length, book-words, book-total, book-adjusted, entry-words, book-payment, after-settling}
@@ -33,14 +34,6 @@ pub record InRange (d : List ℕ) : Type 0 where
   pub payments : (k s : ℕ) → k < lineCount d → s < 5 → mag (linePayment d s k) < 2 ^ 63
   pub totals : (s : ℕ) → s < 5 → mag (total d s) < 2 ^ 63
   pub adjusted : (s : ℕ) → s < 5 → mag (adjustedTotal d s) < 2 ^ 63
-
--- texts of equal values
-joined-same : (n : ℕ) (f g : ℕ → List ℕ) → ((k : ℕ) → k < n → f k ≡ g k) → joined n f ≡ joined n g
-joined-same zero f g h = joined-none f ∙ sym (joined-none g)
-joined-same (suc n) f g h =
-    let r = joined-same n f g (λ k l. h k (omega arith)) in
-    let e = h n (omega arith) in
-    rw (joined-suc n f, joined-suc n g, r, e)
 
 five-equal : (f g : ℕ → ℤ) → ((s : ℕ) → s < 5 → f s ≡ g s) → fiveNumbers f ≡ fiveNumbers g
 unfolding fiveNumbers joined numberAfter

@@ -1,5 +1,5 @@
-// Reads a pack of days on standard input and prints the report of each, as the program `settle` does. A pack is, for each day, its
-// length as a word and then its bytes. A day broken off, or longer than 65,536 bytes, ends the run.
+// Reads a pack of days on standard input and prints the report of each, as the program `settle` does. A day broken off, or longer than
+// 65,536 bytes, ends the run.
 
 // Prints the report of a day.
 fn print_report(day: &[u8]) -> bool {
@@ -8,30 +8,19 @@ fn print_report(day: &[u8]) -> bool {
     io::write_all(1, &out[..end])
 }
 
-// Fills the lent bytes with a day and prints its report. Answers whether there were so many.
-fn report_day(day: &mut [u8]) -> bool {
-    if io::read_full(0, day) < day.len() {
-        return false;
-    }
-    print_report(day)
-}
-
-// The same for the first `length` of the lent bytes, where they are so many.
-fn entry(space: &mut [u8], length: usize) -> bool {
+// Prints the report of the day that is the first `length` of the lent bytes. Answers whether they are so many.
+fn shown(space: &[u8], length: usize) -> bool {
     if space.len() < length {
         return false;
     }
-    report_day(&mut space[0..length])
+    print_report(&space[0..length])
 }
 
-// Reads one day and prints its report. Answers whether there was one.
+// The next day's. Answers whether there was one.
 fn next() -> bool {
-    let mut head = [0u8; 4];
-    if io::read_full(0, &mut head) < 4 {
-        return false;
-    }
     let mut space = [0u8; 65536];
-    entry(&mut space, bytes_le::word_at(&head, 0) as usize)
+    let length = pack::read(&mut space);
+    shown(&space, length)
 }
 
 // A proved loop has to end, and nothing says that the input does: the turns count down from a number that no run uses up.

@@ -3,11 +3,12 @@ use Prim.Native.Nat.{ℕ, suc, _+_, _-_, _^_, _≤_, _<_}
 use native.Mathlib.Omega.{arith}
 use mathlib.Core.Path.{_≡_, refl, _∙_, ap}
 use mathlib.Core.List.{List, [], _∷_, _++_, append-assoc}
+use lib.ListN.{length}
 use lib.IntN.{ℤ, pos, negsuc}
 use borrow.Author.Tests.{eq-eqb, ne-eqb}
 use mir.Syntax.{w64}
 use mir.Val.{SFits}
-use Rattle.rules.specs.Fold.{joined, five, atZ}
+use Rattle.rules.specs.Fold.{joined, five, at, atZ}
 use Rattle.rules.specs.Layout.{lineAt, participant, point, side}
 use Rattle.rules.specs.Steps.{stepCount}
 use Rattle.rules.specs.Book.{bits64}
@@ -17,6 +18,13 @@ use Rattle.rules.specs.Report.{numberAfter, fiveNumbers, paymentOf, lineText}
 -- five numbers, each after a space
 unfoldable pub numbers : (ℕ → ℤ) → List ℕ
 numbers f = joined 5 (numberAfter f)
+
+-- the numbers of a list, each after a space
+unfoldable pub wordAfter : List ℕ → ℕ → List ℕ
+wordAfter v i = space ++ decimal (at v i)
+
+unfoldable pub words : List ℕ → List ℕ
+words v = joined (length v) (wordAfter v)
 
 -- participant and point; side and steps
 unfoldable pub lineIds : ℕ → ℕ → List ℕ
@@ -56,6 +64,10 @@ line-of d k =
 pub number-is : (f : ℕ → ℤ) (s : ℕ) → space ++ signedDecimal (f s) ≡ numberAfter f s
 unfolding numberAfter
 number-is f s = refl
+
+pub word-is : (v : List ℕ) (i : ℕ) → space ++ decimal (at v i) ≡ wordAfter v i
+unfolding wordAfter
+word-is v i = refl
 
 pub five-is : (f : ℕ → ℤ) → numbers f ++ lineFeed ≡ fiveNumbers f
 unfolding numbers fiveNumbers

@@ -1,5 +1,5 @@
 -- What a writing function answers: its text put into the lent bytes from a place on (`sets`), and the place after it.
-use Prim.Native.Nat.{ℕ, suc, _+_, _*_, _≤_, _<_}
+use Prim.Native.Nat.{ℕ, zero, suc, _+_, _*_, _≤_, _<_}
 use native.Mathlib.Nat.{add-zero, mul-suc}
 use native.Mathlib.Numerals.{add-one}
 use native.Mathlib.Omega.{arith}
@@ -8,7 +8,7 @@ use mathlib.Core.List.{List, [], _∷_, _++_}
 use lib.ListN.{length, set, take, getD, length-append}
 use lib.Seq.{sets, take-suc, take-all}
 use Rattle.rules.specs.Fold.{joined}
-use Rattle.laws.specs.Folds.{joined-none, joined-more}
+use Rattle.laws.specs.Folds.{joined-none, joined-suc, joined-more}
 
 -- the text t, of at most `room` bytes, was put into the bytes l at `at`: r is the place after it, m the bytes then
 pub record Written (room : ℕ) (l : List ℕ) (at : ℕ) (t : List ℕ) (r : ℕ) (m : List ℕ) : Type 0 where
@@ -73,3 +73,11 @@ pub row-more : (f : ℕ → List ℕ) (i k : ℕ) {l m n : List ℕ} {at p q : �
 row-more f i k v w =
     let e : i * (k + 1) ≡ i * k + i = rw add-one (mul-suc i k) in
     rw (e, joined-more k f) (then v w)
+
+-- rows of equal texts
+pub joined-same : (n : ℕ) (f g : ℕ → List ℕ) → ((k : ℕ) → k < n → f k ≡ g k) → joined n f ≡ joined n g
+joined-same zero f g h = joined-none f ∙ sym (joined-none g)
+joined-same (suc n) f g h =
+    let r = joined-same n f g (λ k l. h k (omega arith)) in
+    let e = h n (omega arith) in
+    rw (joined-suc n f, joined-suc n g, r, e)

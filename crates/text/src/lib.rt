@@ -1,12 +1,13 @@
 // Decimal numbers and the lines of the report (document 01, K10), written into lent bytes from a place on.
 // Each function answers the place after its text. `Written` of specs/ says what stands in the bytes then.
-ghost use Prim.Native.Nat.{_+_, _≤_};
+ghost use mathlib.Core.Path.{_≡_};
+ghost use Prim.Native.Nat.{_+_, _*_, _≤_, _<_};
 ghost use mathlib.Core.List.{[], _∷_, _++_};
 ghost use lib.ListN.{length};
 ghost use Rattle.rules.specs.Fold.{atZ};
-ghost use Rattle.rules.specs.Report.{decimal, signedDecimal, space, lineFeed, fiveNumbers, sideText, refusedLine};
+ghost use Rattle.rules.specs.Report.{decimal, signedDecimal, space, lineFeed, numberAfter, fiveNumbers, sideText, refusedLine};
 ghost use Rattle.text.specs.Put.{Written};
-ghost use Rattle.text.specs.Lines.{numbers, lineIds, sideSteps, lineStart, lineTextOf, heading, totalsText};
+ghost use Rattle.text.specs.Lines.{numbers, words, lineIds, sideSteps, lineStart, lineTextOf, heading, totalsText};
 use bytes_le::bits;
 use bytes_le::signed_at;
 use bytes_le::word_at;
@@ -58,6 +59,35 @@ pub fn put_signed(out: &mut [u8], at: usize, v: i64) -> usize
     put_decimal(out, p, 18446744073709551615 - n + 1)
 }
 
+// A space and a number.
+pub fn put_unsigned(out: &mut [u8], at: usize, v: u64) -> usize
+    requires { ⌜ at + 21 ≤ length (now out) ⌝ }
+    ensures { λ r. ⌜ Written 21 (now (out .entry)) at (space ++ decimal v) r (now (out .exit)) ⌝ }
+{
+    let p = put_byte(out, at, b' ');
+    put_decimal(out, p, v)
+}
+
+fn wide(v: u32) -> u64
+    ensures { λ r. ⌜ r ≡ v ⌝ }
+{
+    v as u64
+}
+
+// Numbers, each after a space.
+pub fn put_words(out: &mut [u8], at: usize, v: &[u32]) -> usize
+    requires { ⌜ at + 21 * length (now v) ≤ length (now out) ⌝ }
+    ensures { λ r. ⌜ Written (21 * length (now (v .entry))) (now (out .entry)) at (words (now (v .entry))) r (now (out .exit)) ⌝ }
+{
+    let mut p = at;
+    let mut i = 0;
+    while i < v.len() {
+        p = put_unsigned(out, p, wide(v[i]));
+        i += 1;
+    }
+    p
+}
+
 // A space and a signed number.
 fn put_number(out: &mut [u8], at: usize, v: i64) -> usize
     requires { ⌜ at + 22 ≤ length (now out) ⌝ }
@@ -65,6 +95,14 @@ fn put_number(out: &mut [u8], at: usize, v: i64) -> usize
 {
     let p = put_byte(out, at, b' ');
     put_signed(out, p, v)
+}
+
+// Of five numbers that of schedule s, after a space.
+pub fn put_number_in(out: &mut [u8], at: usize, v: [i64; 5], s: usize) -> usize
+    requires { ⌜ (s < 5) × (at + 22 ≤ length (now out)) ⌝ }
+    ensures { λ r. ⌜ Written 22 (now (out .entry)) at (numberAfter (atZ v) s) r (now (out .exit)) ⌝ }
+{
+    put_number(out, at, v[s])
 }
 
 // Five numbers, each after a space.
@@ -75,7 +113,7 @@ pub fn put_numbers(out: &mut [u8], at: usize, v: [i64; 5]) -> usize
     let mut p = at;
     let mut s = 0;
     while s < 5 {
-        p = put_number(out, p, v[s]);
+        p = put_number_in(out, p, v, s);
         s += 1;
     }
     p
@@ -102,7 +140,7 @@ pub fn put_side(out: &mut [u8], at: usize, side: u32) -> usize
 }
 
 // Participant and point, with a space between them.
-fn put_ids(out: &mut [u8], at: usize, participant: u32, point: u32) -> usize
+pub fn put_ids(out: &mut [u8], at: usize, participant: u32, point: u32) -> usize
     requires { ⌜ at + 41 ≤ length (now out) ⌝ }
     ensures { λ r. ⌜ Written 41 (now (out .entry)) at (lineIds participant point) r (now (out .exit)) ⌝ }
 {
@@ -112,7 +150,7 @@ fn put_ids(out: &mut [u8], at: usize, participant: u32, point: u32) -> usize
 }
 
 // The side between spaces, and the steps.
-fn put_side_steps(out: &mut [u8], at: usize, side: u32, steps: u32) -> usize
+pub fn put_side_steps(out: &mut [u8], at: usize, side: u32, steps: u32) -> usize
     requires { ⌜ at + 25 ≤ length (now out) ⌝ }
     ensures { λ r. ⌜ Written 25 (now (out .entry)) at (sideSteps side steps) r (now (out .exit)) ⌝ }
 {

@@ -4,11 +4,12 @@ use super::random::Random;
 use crate::layout::*;
 use std::collections::BTreeSet;
 
-/// The greatest quantity and price of a line or a day. The quantity has room for 56 steps.
+/// The greatest quantity, price and step count of a line or a day. The quantity has room for 56 steps.
 #[derive(Clone, Copy)]
 pub struct Scale {
     pub quantity: u32,
     pub price: u32,
+    pub steps: usize,
 }
 
 impl Scale {
@@ -16,6 +17,7 @@ impl Scale {
         Scale {
             quantity: random.pick(&[60, 100, 3_000, 5_000_000, QUANTITY_LIMIT]),
             price: random.pick(&[12, 1_000, 300_000, PRICE_LIMIT]),
+            steps: MOST_STEPS,
         }
     }
 }
@@ -54,7 +56,7 @@ pub fn append_line(day: &mut Vec<u8>, random: &mut Random, scale: Scale) {
         1..4 => random.range(1, MOST_STEPS as u32) as usize,
         _ => random.range(1, 8) as usize,
     };
-    let mut line = draw_line(random, scale, side, steps);
+    let mut line = draw_line(random, scale, side, steps.min(scale.steps));
     let keys: BTreeSet<[u32; 3]> = Day::new(day).lines().map(Line::key).collect();
     while Line::new(&line).is_some_and(|line| keys.contains(&line.key())) {
         draw_key(&mut line, random);

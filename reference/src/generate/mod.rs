@@ -26,6 +26,21 @@ pub fn valid_day(seed: u64) -> Vec<u8> {
     draw_day(&mut random, lines, scale)
 }
 
+/// A day without fault and with few steps, so that the text of all of them is short.
+pub fn small_day(seed: u64) -> Vec<u8> {
+    let mut random = Random::new(seed);
+    let (lines, steps) = match random.below(16) {
+        0 => (random.range(20, 24), 4),
+        1 => (1, MOST_STEPS),
+        _ => (random.range(1, 4), 8),
+    };
+    let scale = Scale {
+        steps,
+        ..Scale::draw(&mut random)
+    };
+    draw_day(&mut random, lines, scale)
+}
+
 /// A line without fault, of either side and 1 to 56 steps.
 pub fn line(seed: u64) -> Vec<u8> {
     let steps = Random::new(seed).range(1, MOST_STEPS as u32);

@@ -1,12 +1,14 @@
 //! K1 to K10 (01 "Figures to check against").
 
-use crate::{book_of, table1, K10_REPORT};
+use crate::kept::kept;
+use crate::{book_of, K10_REPORT};
 use reference::cut::cut;
 use reference::k10::k10;
 use reference::layout::*;
 use reference::matching::Matching;
 use reference::quantities::{agino, effective_actual, msiq, operating_totals, pricing_totals};
 use reference::report::{cut_report, settle_report, steps_report};
+use reference::table1;
 use reference::totals::adjusted;
 use reference::view::{view, View};
 
@@ -157,6 +159,58 @@ fn k7_matches() {
     // m(1,2) m(1,3) m(2,3) m(1,4) m(2,4) m(3,4) m(1,5) m(2,5) m(3,5) m(4,5)
     let expected = [0, 1, 2, 0, 0, 0, 1, 0, 0, 2];
     assert_eq!(Matching::new(&[3, 5, 2, 4, 1]).matches, expected);
+}
+
+/// K1 and K3 to K7 as the program `steps` prints them: its file for the day of these cases.
+#[test]
+fn k3_to_k7_in_the_text_of_steps() {
+    let text = String::from_utf8(kept("steps", "stdout")).unwrap();
+    let line = |case: u32| {
+        let whole = text.split("line ").find(|part| {
+            let mut words = part.split(' ').skip(1);
+            words.next() == Some(case.to_string().as_str())
+        });
+        whole.unwrap().split("step ").skip(1)
+    };
+    // A step's rows: its heading, five schedules, its matches. Numbers only.
+    let rows = |step: &str| -> Vec<Vec<u32>> {
+        let numbers = |row: &str| {
+            row.split(' ')
+                .filter_map(|word| word.parse().ok())
+                .collect()
+        };
+        step.lines().map(numbers).collect()
+    };
+    let column = |case: u32, place: usize| -> Vec<Vec<u32>> {
+        let steps = line(case).map(rows);
+        steps
+            .map(|step| (1..=5).map(|s| step[s][place]).collect())
+            .collect()
+    };
+    const OPERATING: usize = 3;
+    const PRICING: usize = 4;
+    const AGINO: usize = 5;
+    const CONSTRAINED: usize = 7;
+    let ends: Vec<u32> = line(3).map(|step| rows(step)[0][1]).collect();
+    assert_eq!(ends, ENDS);
+    let totals = |place: usize| -> Vec<u32> {
+        let steps = column(3, place);
+        (0..5)
+            .map(|s| steps.iter().map(|step| step[s]).sum())
+            .collect()
+    };
+    assert_eq!(totals(PRICING), [15, 31, 40, 44, 45]);
+    let end = |upper: u32| ENDS.iter().position(|&end| end == upper).unwrap();
+    assert_eq!(column(3, PRICING)[end(32)][1], 1);
+    assert_eq!(line(3).map(|step| rows(step)[0][3]).sum::<u32>(), 47);
+    assert_eq!(totals(OPERATING)[4], 50);
+    assert_eq!(column(3, AGINO)[end(48)][4], 1);
+    assert_eq!(column(3, AGINO)[end(51)][4], 2);
+    assert_eq!(column(6, OPERATING), [[10, 20, 30, 40, 50]]);
+    assert_eq!(column(6, AGINO), [[5, 15, 25, 35, 45]]);
+    assert_eq!(column(7, CONSTRAINED), [[3, 5, 2, 4, 1]]);
+    let matches: Vec<_> = line(7).map(|step| rows(step)[6].clone()).collect();
+    assert_eq!(matches, [[0, 1, 2, 0, 0, 0, 1, 0, 0, 2]]);
 }
 
 #[test]

@@ -19,7 +19,7 @@ fn stored(path: &str) -> Vec<u8> {
 }
 
 /// A file beside a crate's sources.
-fn kept(crate_name: &str, file: &str) -> Vec<u8> {
+pub fn kept(crate_name: &str, file: &str) -> Vec<u8> {
     stored(&format!("crates/{crate_name}/{file}"))
 }
 
@@ -107,6 +107,30 @@ fn cut_lines() {
 fn cut_table1() {
     assert_eq!(kept("cut", "stdin"), table1::line());
     assert_eq!(kept("cut", "stdout"), run(&["cut"], &table1::line()));
+}
+
+#[test]
+fn steps() {
+    let day = run(&["k3-to-k7"], &[]);
+    assert!(kept("steps", "stdin") == day);
+    assert!(kept("steps", "stdout") == run(&["steps"], &day));
+}
+
+/// Days without fault, and damaged ones of every number.
+#[test]
+fn steps_days() {
+    let small = run(&["days", "2300", "96", "small"], &[]);
+    let damaged = run(&["days", "7476", "55", "damaged"], &[]);
+    let pack = [small.clone(), damaged.clone()].concat();
+    assert!(kept("steps_days", "stdin") == pack);
+    assert!(kept("steps_days", "stdout") == run(&["expect", "steps"], &pack));
+    let numbers = String::from_utf8(run(&["expect", "number"], &small)).unwrap();
+    assert_eq!(numbers, "0\n".repeat(96));
+    let numbers = String::from_utf8(run(&["expect", "number"], &damaged)).unwrap();
+    for number in 0..=14 {
+        let line = number.to_string();
+        assert!(numbers.lines().any(|l| l == line), "no {number}");
+    }
 }
 
 /// The parts that `line_parts` prints, of its day and of parts of its buffer that are refused as days.

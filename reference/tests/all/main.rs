@@ -7,7 +7,6 @@ mod programs;
 mod reach;
 mod refusals;
 mod second;
-mod table1;
 
 use reference::generate::valid_day;
 use reference::layout::book_length;

@@ -1,5 +1,6 @@
 //! That the generated days reach what the laws are to be tried on.
 
+use crate::kept::kept;
 use crate::{line_count, valid_days};
 use reference::generate::{line, line_with_steps};
 use reference::layout::*;
@@ -132,10 +133,10 @@ impl Met {
     }
 }
 
-#[test]
-fn generated_days_reach() {
+/// What days without fault are to reach and don't.
+fn not_reached(days: impl Iterator<Item = Vec<u8>>) -> Vec<&'static str> {
     let mut met = Met::default();
-    for day in valid_days() {
+    for day in days {
         assert_eq!(day_number(&day), 0);
         met.day(&day);
     }
@@ -165,11 +166,25 @@ fn generated_days_reach() {
         "product above 64 bits",
         "initial above the pooled",
     ];
-    let missing: Vec<_> = wanted
-        .into_iter()
-        .filter(|what| !met.0.contains(what))
-        .collect();
-    assert!(missing.is_empty(), "not reached: {missing:?}");
+    let missing = wanted.into_iter().filter(|what| !met.0.contains(what));
+    missing.collect()
+}
+
+#[test]
+fn generated_days_reach() {
+    assert_eq!(not_reached(valid_days()), [""; 0]);
+}
+
+/// The days that the program `steps_days` is run on.
+#[test]
+fn days_of_steps_days_reach() {
+    let pack = kept("steps_days", "stdin");
+    let mut pack = &pack[..];
+    let days = std::iter::from_fn(|| reference::pack::read(&mut pack).unwrap());
+    let valid: Vec<Vec<u8>> = days.filter(|day| day_number(day) == 0).collect();
+    assert!(valid.len() >= 60);
+    assert!(valid.iter().filter(|day| line_count(day) >= 20).count() >= 5);
+    assert_eq!(not_reached(valid.into_iter()), [""; 0]);
 }
 
 #[test]

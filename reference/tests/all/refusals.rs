@@ -1,6 +1,6 @@
 //! Refusals 1 to 18 (01 "Where each refusal is checked").
 
-use crate::{book_of, line_count, table1, valid_days};
+use crate::{book_of, line_count, valid_days};
 use reference::cut::{cut, Cut};
 use reference::generate::{damaged_day, damaged_day_and_number, damaged_line_and_number};
 use reference::k10::k10;
@@ -8,6 +8,7 @@ use reference::layout::*;
 use reference::line_part::line_part;
 use reference::refusal::*;
 use reference::settle::settle;
+use reference::table1;
 use reference::view::{view, View};
 use std::collections::BTreeSet;
 

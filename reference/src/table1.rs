@@ -1,6 +1,6 @@
 //! The line of FD Tables 1 to 8, with the readings of 01 "Figures to check against".
 
-use reference::layout::*;
+use crate::layout::*;
 
 type Bid = (&'static [u32], &'static [u32]);
 

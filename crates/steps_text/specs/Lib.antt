@@ -1,0 +1,3 @@
+-- What the program `steps` prints, and that its parts make up the whole.
+pub mod Text
+pub mod Parts
