@@ -34,7 +34,7 @@ const KINDS: [(&str, usize); 6] = [
     ("WDR", 55),
 ];
 
-/// Lines of a kind, so many that no branch is foreseen by heart.
+/// Lines of a kind: so many that the branches of one are not predicted from its last pass.
 const LINES: usize = 256;
 const ROUNDS: usize = 201;
 
