@@ -36,7 +36,7 @@ const KINDS: [(&str, usize); 6] = [
     ("WDR", 55),
 ];
 
-/// Lines of a kind, so many that no branch is foreseen by heart.
+/// Lines of a kind: so many that the branches of one are not predicted from its last pass.
 const LINES: usize = 256;
 const ROUNDS: usize = 201;
 
@@ -118,20 +118,34 @@ fn pass(cutter: Cutter, lines: &[Vec<u8>]) {
     }
 }
 
-/// The three cutters answer alike on every line, whatever stood in the answer before.
-fn compare(lines: &[Vec<u8>], steps: usize) {
-    for line in lines {
-        let expected = reference::cut::cut(line);
-        assert_eq!(expected.count as usize, steps);
-        for (name, cutter) in &CUTTERS[..3] {
-            let mut answer = empty();
-            answer.ends = [u32::MAX; MOST_STEPS];
-            answer.prices = [[u32::MAX; MOST_STEPS]; SCHEDULES];
-            answer.flags = [u64::MAX; SCHEDULES];
-            cutter(line, &mut answer);
-            assert_eq!(answer, expected, "{name}");
-        }
+/// The three cutters answer alike, whatever stood in the answer before.
+fn compare(line: &[u8]) {
+    let expected = reference::cut::cut(line);
+    for (name, cutter) in &CUTTERS[..3] {
+        let mut answer = Cut {
+            number: u32::MAX,
+            count: u32::MAX,
+            ends: [u32::MAX; MOST_STEPS],
+            prices: [[u32::MAX; MOST_STEPS]; SCHEDULES],
+            flags: [u64::MAX; SCHEDULES],
+            missing: [u32::MAX; SCHEDULES],
+        };
+        cutter(line, &mut answer);
+        assert_eq!(answer, expected, "{name}");
     }
+}
+
+/// Lines of both sides, every count of steps, every refusal and every length up to one too long.
+#[test]
+fn cutters_agree() {
+    use reference::generate::{damaged_line, line};
+    for seed in 0..1000 {
+        compare(&line(seed));
+        compare(&damaged_line(seed));
+    }
+    let mut longer = line(0);
+    longer.push(0);
+    (0..=longer.len()).for_each(|length| compare(&longer[..length]));
 }
 
 fn median(values: &mut [f64]) -> f64 {
@@ -145,7 +159,7 @@ fn times() {
     println!("|---|---|---|---|---|---|---|");
     for (side, steps) in KINDS {
         let lines = lines_of(side, steps);
-        compare(&lines, steps);
+        lines.iter().for_each(|line| compare(line));
         let mut taken: [Vec<f64>; 4] = Default::default();
         for round in 0..ROUNDS {
             for turn in 0..CUTTERS.len() {
@@ -157,7 +171,11 @@ fn times() {
         }
         let ratio = |other: usize| {
             let pairs = taken[0].iter().zip(&taken[other]);
-            median(&mut pairs.map(|(ours, theirs)| ours / theirs).collect::<Vec<f64>>())
+            median(
+                &mut pairs
+                    .map(|(ours, theirs)| ours / theirs)
+                    .collect::<Vec<f64>>(),
+            )
         };
         let ratios = [ratio(1), ratio(2)];
         let ns = taken.map(|mut values| median(&mut values));

@@ -1,5 +1,5 @@
 // The text of the cutter's answer for one line: `cut COUNT`, for each step `END P1 P2 P3 P4 P5`, `flags F1 .. F5`,
-// `missing N1 .. N5`; or `refused` and the number.
+// `missing N1 .. N5`; or `refused` and the number. Each function answers the place after its text.
 use cutter::cut;
 use rules::Cut;
 use text::put_byte;
@@ -7,13 +7,23 @@ use text::put_bytes;
 use text::put_decimal;
 use text::put_refused;
 ghost use mathlib.Core.Path.{_≡_};
+ghost use mathlib.Core.List.{_++_};
 ghost use Prim.Native.Nat.{_+_, _*_, _≤_};
 ghost use lib.ListN.{length};
+ghost use lib.Seq.{sets};
+ghost use Rattle.rules.specs.Fold.{joined, five};
+ghost use Rattle.rules.specs.Report.{space, decimal};
+ghost use Rattle.rules.specs.Cutting.{cutAnswer};
+ghost use Rattle.text.specs.Put.{Written};
+ghost use Rattle.cut_text.specs.CutText.{numberOf, rowText, stepPrice, stepText, countText, stepsText, cutText, textMost, lentText};
+
+// The bytes that no answer's text passes.
+pub const TEXT_MOST: usize = 8000;
 
 // A space and a number.
 fn put_number(out: &mut [u8], at: usize, v: u64) -> usize
     requires { ⌜ at + 21 ≤ length (now out) ⌝ }
-    ensures { λ r. ⌜ r ≤ at + 21 ⌝ }
+    ensures { λ r. ⌜ Written 21 (now (out .entry)) at (space ++ decimal v) r (now (out .exit)) ⌝ }
 {
     let p = put_byte(out, at, b' ');
     put_decimal(out, p, v)
@@ -22,7 +32,7 @@ fn put_number(out: &mut [u8], at: usize, v: u64) -> usize
 // Five numbers, each after a space, and the line's end.
 fn put_five(out: &mut [u8], at: usize, v: [u64; 5]) -> usize
     requires { ⌜ at + 106 ≤ length (now out) ⌝ }
-    ensures { λ r. ⌜ r ≤ at + 106 ⌝ }
+    ensures { λ r. ⌜ Written 106 (now (out .entry)) at (rowText (numberOf v)) r (now (out .exit)) ⌝ }
 {
     let a = put_number(out, at, v[0]);
     let b = put_number(out, a, v[1]);
@@ -32,10 +42,19 @@ fn put_five(out: &mut [u8], at: usize, v: [u64; 5]) -> usize
     put_byte(out, e, b'\n')
 }
 
-// A step: its end and its five prices.
+// A line of a word and five numbers.
+fn put_row(out: &mut [u8], at: usize, word: &[u8], v: [u64; 5]) -> usize
+    requires { ⌜ at + length (now word) + 106 ≤ length (now out) ⌝ }
+    ensures { λ r. ⌜ Written (length (now (word .entry)) + 106) (now (out .entry)) at (now (word .entry) ++ rowText (numberOf v)) r (now (out .exit)) ⌝ }
+{
+    let p = put_bytes(out, at, word);
+    put_five(out, p, v)
+}
+
+// A step's line: its end and its five prices.
 fn put_step(out: &mut [u8], at: usize, end: u32, price: [u64; 5]) -> usize
     requires { ⌜ at + 126 ≤ length (now out) ⌝ }
-    ensures { λ r. ⌜ r ≤ at + 126 ⌝ }
+    ensures { λ r. ⌜ Written 126 (now (out .entry)) at (decimal end ++ rowText (numberOf price)) r (now (out .exit)) ⌝ }
 {
     let p = put_decimal(out, at, end as u64);
     put_five(out, p, price)
@@ -44,6 +63,7 @@ fn put_step(out: &mut [u8], at: usize, end: u32, price: [u64; 5]) -> usize
 // The prices of step k.
 fn prices_of(r: Cut, k: usize) -> [u64; 5]
     requires { ⌜ k + 1 ≤ 56 ⌝ }
+    ensures { λ v. ⌜ v ≡ five (stepPrice r k) ⌝ }
 {
     [
         r.prices[k] as u64,
@@ -54,10 +74,10 @@ fn prices_of(r: Cut, k: usize) -> [u64; 5]
     ]
 }
 
-// All steps.
+// The lines of the first `count` steps.
 fn put_steps(out: &mut [u8], at: usize, r: Cut, count: usize) -> usize
-    requires { ⌜ (count ≤ 56) × (at + 126 * 56 ≤ length (now out)) ⌝ }
-    ensures { λ p. ⌜ p ≤ at + 126 * 56 ⌝ }
+    requires { ⌜ (count ≤ 56) × (at + 126 * count ≤ length (now out)) ⌝ }
+    ensures { λ p. ⌜ Written (126 * count) (now (out .entry)) at (joined count (stepText r)) p (now (out .exit)) ⌝ }
 {
     let mut p = at;
     let mut k = 0;
@@ -69,16 +89,18 @@ fn put_steps(out: &mut [u8], at: usize, r: Cut, count: usize) -> usize
 }
 
 // The first line.
-fn put_head(out: &mut [u8], count: u32) -> usize
+fn put_count(out: &mut [u8], count: u32) -> usize
     requires { ⌜ 25 ≤ length (now out) ⌝ }
-    ensures { λ p. ⌜ p ≤ 25 ⌝ }
+    ensures { λ p. ⌜ Written 25 (now (out .entry)) 0 (countText count) p (now (out .exit)) ⌝ }
 {
-    let a = put_bytes(out, 0, b"cut");
-    let b = put_number(out, a, count as u64);
+    let a = put_bytes(out, 0, b"cut ");
+    let b = put_decimal(out, a, count as u64);
     put_byte(out, b, b'\n')
 }
 
-fn wide(v: [u32; 5]) -> [u64; 5] {
+fn wide(v: [u32; 5]) -> [u64; 5]
+    ensures { λ r. ⌜ r ≡ five (numberOf v) ⌝ }
+{
     [
         v[0] as u64,
         v[1] as u64,
@@ -88,61 +110,49 @@ fn wide(v: [u32; 5]) -> [u64; 5] {
     ]
 }
 
-// The line of the flags' words.
-fn put_flags(out: &mut [u8], at: usize, flags: [u64; 5]) -> usize
-    requires { ⌜ at + 111 ≤ length (now out) ⌝ }
-    ensures { λ p. ⌜ p ≤ at + 111 ⌝ }
-{
-    let p = put_bytes(out, at, b"flags");
-    put_five(out, p, flags)
-}
-
-// The line of how many flags are set.
-fn put_missing(out: &mut [u8], at: usize, missing: [u32; 5]) -> usize
-    requires { ⌜ at + 113 ≤ length (now out) ⌝ }
-    ensures { λ p. ⌜ p ≤ at + 113 ⌝ }
-{
-    let p = put_bytes(out, at, b"missing");
-    put_five(out, p, wide(missing))
-}
-
 // The text of an answer with the number 0.
-fn put_whole(out: &mut [u8], r: Cut, count: usize) -> usize
-    requires { ⌜ (count ≤ 56) × (8000 ≤ length (now out)) ⌝ }
-    ensures { λ p. ⌜ p ≤ 8000 ⌝ }
+fn put_accepted(out: &mut [u8], r: Cut, count: usize) -> usize
+    requires { ⌜ (count ≡ r .count) × (count ≤ 56) × (textMost ≤ length (now out)) ⌝ }
+    ensures { λ p. ⌜ Written textMost (now (out .entry)) 0 (stepsText r) p (now (out .exit)) ⌝ }
 {
     let flags = r.flags;
     let missing = r.missing;
-    let a = put_head(out, r.count);
+    let a = put_count(out, r.count);
     let b = put_steps(out, a, r, count);
-    let c = put_flags(out, b, flags);
-    put_missing(out, c, missing)
+    let c = put_row(out, b, b"flags", flags);
+    put_row(out, c, b"missing", wide(missing))
 }
 
 // The text of an answer.
 fn put_cut(out: &mut [u8], r: Cut) -> usize
-    requires { ⌜ (r .count ≤ 56) × (8000 ≤ length (now out)) ⌝ }
-    ensures { λ p. ⌜ p ≤ 8000 ⌝ }
+    requires { ⌜ (r .count ≤ 56) × (textMost ≤ length (now out)) ⌝ }
+    ensures { λ p. ⌜ Written textMost (now (out .entry)) 0 (cutText r) p (now (out .exit)) ⌝ }
 {
     if r.number != 0 {
         return put_refused(out, 0, r.number);
     }
-    put_whole(out, r, r.count as usize)
+    put_accepted(out, r, r.count as usize)
 }
 
 // The text of a line's cut, at the front of the lent bytes. Answers how many it takes, and 0 with nothing written where fewer than
-// 8,000 are lent.
+// `TEXT_MOST` are lent.
 pub fn put_line(out: &mut [u8], line: &[u8]) -> usize
-    ensures { λ p. ⌜ p ≤ length (now (out .exit)) ⌝ }
+    ensures { λ p. do
+      lent ← ⟦out.len()⟧ .entry
+      ⌜ Written lent (now (out .entry)) 0 (lentText (cutAnswer (now (line .entry))) lent) p (now (out .exit)) ⌝ }
 {
-    if out.len() < 8000 {
+    if out.len() < TEXT_MOST {
         return 0;
     }
     put_cut(out, cut(line))
 }
 
 // Prints the text of a line's cut, made at the front of the lent bytes. Answers whether all of it was written.
-pub fn print_line(out: &mut [u8], line: &[u8]) -> bool {
+pub fn print_line(out: &mut [u8], line: &[u8]) -> bool
+    ensures { λ _. do
+      lent ← ⟦out.len()⟧ .entry
+      ⌜ now (out .exit) ≡ sets (now (out .entry)) 0 (lentText (cutAnswer (now (line .entry))) lent) ⌝ }
+{
     let end = put_line(out, line);
     io::write_all(libc::STDOUT_FILENO, &out[..end])
 }

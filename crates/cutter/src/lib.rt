@@ -15,8 +15,8 @@ ghost use lib.ListN.{length};
 ghost use lib.Dec.{eqb, ltb};
 ghost use Rattle.rules.specs.Layout.{bidCount, bidBreak, bidPrice};
 ghost use Rattle.rules.specs.Cutting.{cutOf, cutRefused, cutAnswer};
-ghost use Rattle.cutter.specs.Sweep.{Line, BidRead, Within, Limited, Room, Markable, past, cursorAt, cursorMoved, bitIf, stopOf, stepAfter, gapOf, nextGap};
-ghost use Rattle.cutter.specs.Sweep.{sweepFor, sweepMoved, withFlag, wordsMarked, pricesPut};
+ghost use Rattle.cutter.specs.Sweep.{Line, BidRead, Within, Limited, Room, Markable, past, cursorAt, cursorMoved, bitIf, stopOf, stepAfter};
+ghost use Rattle.cutter.specs.Sweep.{gapOf, nextGap, sweepFor, sweepMoved, withFlag, wordsMarked, pricesPut};
 
 // A gap that no break above an end has.
 const FAR: u32 = 2147483648;

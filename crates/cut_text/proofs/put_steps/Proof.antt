@@ -1,51 +1,29 @@
--- `cut_text::put_steps` meets its contract.
-use borrow.Author.Needs.{needs}
-use native.Mathlib.Omega.{arith}
-use Prim.Native.Nat.{_+_, _*_, _-_, _≤_}
-use mathlib.Core.Path.{_≡_}
+-- `cut_text::put_steps` meets its contract: after k turns the first k steps are put.
+use Prim.Native.Nat.{_*_, _-_, _≤_}
+use mathlib.Core.Path.{_≡_, refl}
 use lib.ListN.{length}
+use native.Mathlib.Omega.{arith}
+use borrow.Author.Needs.{needs}
+use Rattle.cut_text.specs.CutText.{stepText, line-of-step}
+use Rattle.rules.specs.Fold.{joined, at}
+use Rattle.text.specs.Put.{Written, written-as, row-none, row-more}
 use Rattle.cut_text.proofs.put_steps.Statement.{statement}
 use Rattle.cut_text.proofs.put_steps.Tie as tie
-use Rattle.cut_text.proofs.put_steps.Reads as reads
-use Rattle.cut_text.proofs.put_steps.Lts as lts
-use Rattle.cut_text.proofs.prices_of.Reads as prices-of-reads
-use Rattle.cut_text.proofs.put_step.Reads as put-step-reads
 
 abbrev Inv-loop : tie.InvT-loop
-Inv-loop out₀ at count r p₀ k₀ out p k = (length out ≡ length out₀) × (k ≤ count) × (p ≤ at + 126 * k)
+Inv-loop out₀ at count r p₀ k₀ out p k = (k ≤ count) × (length out ≡ length out₀) × (Written (126 * k) out₀ at (joined k (stepText r)) p out)
 
 abbrev μ-loop : tie.MeasureT-loop
 μ-loop out₀ at count r p₀ k₀ out p k = count - k
 
 loop-holds : tie.Need-loop-holds Inv-loop μ-loop
-loop-holds c = search needs
-
-mul-put-step : tie.Need-mul-put-step Inv-loop μ-loop
-mul-put-step c = omega arith
-
-element-copy-out-put-step : tie.Need-element-copy-out-put-step Inv-loop μ-loop
-element-copy-out-put-step c = omega arith
-
-prices-of-requires : tie.Need-prices-of-requires Inv-loop μ-loop
-prices-of-requires c κs = search needs
-
-put-step-requires : tie.Need-put-step-requires Inv-loop μ-loop
-put-step-requires c κs = search needs
-
-add-k : tie.Need-add-k Inv-loop μ-loop
-add-k c = omega arith
-
-loop-less : tie.Need-loop-less Inv-loop μ-loop
-loop-less c = omega arith
+loop-holds c = (search needs, search needs, row-none _ _ 126 _)
 
 loop-again : tie.Need-loop-again Inv-loop μ-loop
-loop-again c = search needs
-
-same-length : tie.Need-same-length Inv-loop μ-loop
-same-length c = search needs
+loop-again c = (search needs, search needs, row-more _ 126 _ (c .before .before .before .before .before .before .before .loop .inv .2) (written-as (line-of-step _ _ refl (c .before .before .before .prices-of .ensures)) (c .before .before .put-step .ensures)))
 
 returns : tie.Need-returns Inv-loop μ-loop
-returns c = search needs
+returns c = let e : c .before .loop .k ≡ c .before .before .before .args .count = omega arith in rw e at (c .before .loop .inv .2)
 
 pub put-steps-spec : {M : Type 1} → statement M
 put-steps-spec =
@@ -54,12 +32,12 @@ put-steps-spec =
     Inv-loop
     μ-loop
     loop-holds
-    mul-put-step
-    element-copy-out-put-step
-    prices-of-requires
-    put-step-requires
-    add-k
-    loop-less
+    (λ c. search needs)
+    (λ c. search needs)
+    (λ c κs. search needs)
+    (λ c κs. search needs)
+    (λ c. search needs)
+    (λ c. search needs)
     loop-again
-    same-length
+    (λ c. search needs)
     returns)

@@ -1,0 +1,2 @@
+-- The text of the cutter's answer.
+pub mod CutText
