@@ -1,13 +1,13 @@
 //! The files kept under crates: what this program makes for the other implementation's programs to be run on and held to.
 
 use crate::programs::run;
-use crate::table1;
 use crate::K10_REPORT;
 use reference::cut::cut;
 use reference::layout::{MOST_STEPS, SIDE};
 use reference::line_part::line_part;
 use reference::pack;
 use reference::refusal::line_part_number;
+use reference::table1;
 use std::collections::BTreeSet;
 use std::fmt::Write;
 use std::path::Path;
