@@ -12,27 +12,83 @@
 extern "C" {
 #endif
 
-/* Numbers. A refusal is the first fault met in the order of document 01's table. */
+/* Numbers. A refusal is the first fault met in the order of document 01's table, "Where each refusal is checked". */
 #define MEWIKOFU_ACCEPTED 0
-#define MEWIKOFU_SIDE_OR_ACCREDITATION 6 /* side or accreditation above 1 */
-#define MEWIKOFU_BID_COUNT 7             /* bid count 0 or above 11 */
-#define MEWIKOFU_BREAKS 8                /* breaks not strictly rising from above 0, or above limit */
-#define MEWIKOFU_PRICES 9                /* price above limit, or falling (withdrawal: rising) */
-#define MEWIKOFU_UNUSED_SLOT 10          /* an unused slot isn't 0 */
-#define MEWIKOFU_HEDGE 11                /* hedge above M, or not 0 on a withdrawal */
-#define MEWIKOFU_TOTALS 12               /* a pricing or operating total above M */
-#define MEWIKOFU_ACTUALS 13              /* an actual above the quantity limit */
-#define MEWIKOFU_LINE_LENGTH 18          /* not 660 bytes */
+#define MEWIKOFU_FILE_SHORT 1            /* header: under 64 bytes */
+#define MEWIKOFU_LINE_COUNT 2            /* header: n is 0 or above 64 */
+#define MEWIKOFU_LAYOUT 3                /* header: offsets, length word or real length differ */
+#define MEWIKOFU_MARKET_PRICE 4          /* market: a price or APC above limit */
+#define MEWIKOFU_MARKET_MARK 5           /* market: mark or switch above 1 */
+#define MEWIKOFU_SIDE_OR_ACCREDITATION 6 /* line: side or accreditation above 1 */
+#define MEWIKOFU_BID_COUNT 7             /* line: bid count 0 or above 11 */
+#define MEWIKOFU_BREAKS 8                /* line: breaks not strictly rising from above 0, or above limit */
+#define MEWIKOFU_PRICES 9                /* line: price above limit, or falling (withdrawal: rising) */
+#define MEWIKOFU_UNUSED_SLOT 10          /* line: an unused slot isn't 0 */
+#define MEWIKOFU_HEDGE 11                /* line: hedge above M, or not 0 on a withdrawal */
+#define MEWIKOFU_TOTALS 12               /* line: a pricing or operating total above M */
+#define MEWIKOFU_ACTUALS 13              /* line: an actual above the quantity limit */
+#define MEWIKOFU_EQUAL_KEYS 14           /* all lines: two with equal participant, point and side */
+#define MEWIKOFU_BOOK_SHORT 15           /* book: under 96 + 56 n bytes */
+#define MEWIKOFU_NO_LINE 16              /* view, line part: line not below n */
+#define MEWIKOFU_NO_STEP 17              /* view: step not below its count */
+#define MEWIKOFU_LINE_LENGTH 18          /* cutter: not 660 bytes */
 
-/* Sizes of a line and of its cut. */
-#define MEWIKOFU_LINE_BYTES 660
+/* Sizes. */
+#define MEWIKOFU_MOST_LINES 64
 #define MEWIKOFU_SCHEDULES 5
 #define MEWIKOFU_MOST_STEPS 56
+#define MEWIKOFU_MATCHES 10
 
-/* The place of step k's price in schedule s (both from 0) among the prices. */
+/* The day file: 32-bit unsigned little-endian words. Offsets in bytes. */
+#define MEWIKOFU_MARKET_AT 16
+#define MEWIKOFU_LINES_AT 64
+#define MEWIKOFU_LINE_BYTES 660
+#define MEWIKOFU_DAY_BYTES(n) (MEWIKOFU_LINES_AT + MEWIKOFU_LINE_BYTES * (size_t)(n))
+#define MEWIKOFU_LINE_AT(k) (MEWIKOFU_LINES_AT + MEWIKOFU_LINE_BYTES * (size_t)(k))
+
+/* The book: words n, 16, 96, 96 + 56 n; five pairs t, a; per line participant, point, side, step count and five payments. Words are 32-bit
+   unsigned, t, a and payments signed 64-bit, all little-endian. Offsets in bytes; schedules s and lines k count from 0. */
+#define MEWIKOFU_PAIRS_AT 16
+#define MEWIKOFU_TOTAL_AT(s) (16 + 16 * (size_t)(s))
+#define MEWIKOFU_ADJUSTED_AT(s) (24 + 16 * (size_t)(s))
+#define MEWIKOFU_ENTRIES_AT 96
+#define MEWIKOFU_ENTRY_BYTES 56
+#define MEWIKOFU_ENTRY_AT(k) (MEWIKOFU_ENTRIES_AT + MEWIKOFU_ENTRY_BYTES * (size_t)(k))
+#define MEWIKOFU_PARTICIPANT 0 /* within an entry */
+#define MEWIKOFU_POINT 4
+#define MEWIKOFU_SIDE 8
+#define MEWIKOFU_STEPS 12
+#define MEWIKOFU_PAYMENT(s) (16 + 8 * (size_t)(s))
+#define MEWIKOFU_BOOK_BYTES(n) (MEWIKOFU_ENTRIES_AT + MEWIKOFU_ENTRY_BYTES * (size_t)(n))
+
+/* The place of step k's price in schedule s (both from 0) among the cutter's prices, and of m(r, s) with r below s (both from 0) among the
+   view's matches. */
 #define MEWIKOFU_PRICE_AT(s, k) (MEWIKOFU_MOST_STEPS * (s) + (k))
+#define MEWIKOFU_MATCH_AT(r, s) ((s) * ((s) - 1) / 2 + (r))
 
-/* Cuts one line of a day file, the `length` bytes at `line`. Answers the number and writes every lent place:
+/* Settles a day, the `length` bytes at `day`, into the book lent, `room` bytes at `book`. Answers the number: 1 to 14 for a fault of the file,
+   then 15 where room is under MEWIKOFU_BOOK_BYTES(n). With 0 the book's bytes are written and those beyond are unchanged; with any other
+   number every lent byte is as it was. */
+uint32_t mewikofu_settle(const uint8_t *day, size_t length, uint8_t *book, size_t room);
+
+/* The step view: every figure of step `step` of line `line` (both from 0). Answers the number, 1 to 14 for a fault of the file, then 16, 17, and
+   writes every lent place: all are 0 where the number isn't. By schedule:
+   price      capped          flag       1 where the bid has no price for the step
+   operating  O               pricing    E
+   agino      AGINO           msiq       MSIQ           constrained  C
+   initial, revised, modified, finals    payments, in $0.0000001
+   and end, width, actual (A), and the ten matches m(1,2) m(1,3) m(2,3) m(1,4) .. m(4,5), at MEWIKOFU_MATCH_AT. */
+uint32_t mewikofu_view(const uint8_t *day, size_t length, size_t line, size_t step, uint32_t *end, uint32_t *width, uint32_t *actual,
+                       uint32_t price[MEWIKOFU_SCHEDULES], uint32_t flag[MEWIKOFU_SCHEDULES], uint32_t operating[MEWIKOFU_SCHEDULES],
+                       uint32_t pricing[MEWIKOFU_SCHEDULES], uint32_t agino[MEWIKOFU_SCHEDULES], uint32_t msiq[MEWIKOFU_SCHEDULES],
+                       uint32_t constrained[MEWIKOFU_SCHEDULES], uint32_t matches[MEWIKOFU_MATCHES], int64_t initial[MEWIKOFU_SCHEDULES],
+                       int64_t revised[MEWIKOFU_SCHEDULES], int64_t modified[MEWIKOFU_SCHEDULES], int64_t finals[MEWIKOFU_SCHEDULES]);
+
+/* The bytes of line k (from 0) within the day's own: they are the `part_length` bytes from byte `at` of the day on. Answers the number, 1 to 3
+   for a fault of the header, then 16; where it isn't 0 both places are 0 and the part is empty. */
+uint32_t mewikofu_line_part(const uint8_t *day, size_t length, size_t k, size_t *at, size_t *part_length);
+
+/* Cuts one line of a day file, the `length` bytes at `line`. Answers the number, 18, then 6 to 13, and writes every lent place:
    count    how many steps, at most 56
    ends     their upper ends, rising
    prices   their uncapped prices, at MEWIKOFU_PRICE_AT
