@@ -12,7 +12,9 @@ use view::view;
 
 // Settles a day. Where it answers 0, the lent book as it is then, the view's answers and the cutter's are certified.
 pub fn settle_certified(day: &[u8], book: &mut [u8]) -> u32
-    ensures { λ r. ⌜ (r ≡ settleFault (now (day .entry)) (length (now (book .entry)))) × (now (book .exit) ≡ bookAfter (now (day .entry)) (now (book .entry))) × (r ≡ 0 → CertifiedDay (now (day .entry)) (now (book .exit))) ⌝ }
+    ensures { λ r. ⌜ r ≡ settleFault (now (day .entry)) (length (now (book .entry))) ⌝ }
+    ensures { λ _. ⌜ now (book .exit) ≡ bookAfter (now (day .entry)) (now (book .entry)) ⌝ }
+    ensures { λ r. ⌜ (r ≡ 0 → CertifiedDay (now (day .entry)) (now (book .exit))) ⌝ }
 {
     settle(day, book)
 }

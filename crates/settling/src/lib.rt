@@ -76,7 +76,8 @@ fn put_lines(
     book: &mut [u8],
 ) -> Money
     requires { ⌜ (Payer (now day) m injection withdrawal) × (bookLength (lineCount (now day)) ≤ length (now book)) ⌝ }
-    ensures { λ r. ⌜ (now (book .exit) ≡ sets (now (book .entry)) 96 (joined (lineCount (now (day .entry))) (lineEntry (now (day .entry))))) × (r ≡ moneyTo (lineCount (now (day .entry))) (lineMoney (now (day .entry)))) ⌝ }
+    ensures { λ _. ⌜ now (book .exit) ≡ sets (now (book .entry)) 96 (joined (lineCount (now (day .entry))) (lineEntry (now (day .entry)))) ⌝ }
+    ensures { λ r. ⌜ r ≡ moneyTo (lineCount (now (day .entry))) (lineMoney (now (day .entry))) ⌝ }
 {
     let n = line_count(day);
     let mut total = Money {
@@ -95,7 +96,8 @@ fn put_lines(
 // The book of an accepted day.
 fn put_book(day: &[u8], book: &mut [u8]) -> u32
     requires { ⌜ (AcceptedDay (now day)) × (bookLength (lineCount (now day)) ≤ length (now book)) ⌝ }
-    ensures { λ r. ⌜ (r ≡ 0) × (now (book .exit) ≡ bookOf (now (day .entry)) ++ lib.ListN.drop (bookLength (lineCount (now (day .entry)))) (now (book .entry))) ⌝ }
+    ensures { λ r. ⌜ r ≡ 0 ⌝ }
+    ensures { λ _. ⌜ now (book .exit) ≡ bookOf (now (day .entry)) ++ lib.ListN.drop (bookLength (lineCount (now (day .entry)))) (now (book .entry)) ⌝ }
 {
     let m = market_of(day);
     let injection = pool_for(day, m, 0);
@@ -109,7 +111,8 @@ fn put_book(day: &[u8], book: &mut [u8]) -> u32
 
 // Settles a day into a lent book, for any bytes and any lent length.
 pub fn settle(day: &[u8], book: &mut [u8]) -> u32
-    ensures { λ r. ⌜ (r ≡ settleFault (now (day .entry)) (length (now (book .entry)))) × (now (book .exit) ≡ bookAfter (now (day .entry)) (now (book .entry))) ⌝ }
+    ensures { λ r. ⌜ r ≡ settleFault (now (day .entry)) (length (now (book .entry))) ⌝ }
+    ensures { λ _. ⌜ now (book .exit) ≡ bookAfter (now (day .entry)) (now (book .entry)) ⌝ }
 {
     let number = day_number(day);
     if number != 0 {

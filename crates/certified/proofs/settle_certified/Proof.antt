@@ -6,7 +6,7 @@ use Rattle.certified.proofs.settle_certified.Statement.{statement}
 use Rattle.certified.proofs.settle_certified.Tie as tie
 
 returns : tie.Need-returns
-returns c = (c .before .before .settle .ensures .0, c .before .before .settle .ensures .1, λ z. settled-certified (now (c .before .before .before .before .before .before .args .day)) _ _ _ (c .before .before .settle .ensures .0) (c .before .before .settle .ensures .1) z)
+returns c = (c .before .before .settle .ensures .0, (c .before .before .settle .ensures .1, λ z. settled-certified (now (c .before .before .before .before .before .before .args .day)) _ _ _ (c .before .before .settle .ensures .0) (c .before .before .settle .ensures .1) z))
 
 pub settle-certified-spec : {M : Type 1} → statement M
 settle-certified-spec =
