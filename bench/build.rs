@@ -1,8 +1,10 @@
-//! Links target/staticlib/libcapi.a, which `rt staticlib capi` writes.
+//! Links the archives that `rt staticlib capi` and `rt staticlib cut_capi` write.
 
 fn main() {
     let folder = concat!(env!("CARGO_MANIFEST_DIR"), "/../target/staticlib");
     println!("cargo:rustc-link-search=native={folder}");
-    println!("cargo:rustc-link-lib=static=capi");
-    println!("cargo:rerun-if-changed={folder}/libcapi.a");
+    for name in ["capi", "cut_capi"] {
+        println!("cargo:rustc-link-lib=static={name}");
+        println!("cargo:rerun-if-changed={folder}/lib{name}.a");
+    }
 }

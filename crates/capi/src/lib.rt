@@ -1,5 +1,4 @@
-// The entry points for programs in C and other languages; include/mewikofu.h declares them.
-mod cutting;
+// The engine for programs in C and other languages; include/mewikofu.h declares its functions.
 mod part;
 mod settlement;
 mod viewing;

@@ -1,9 +1,9 @@
--- `capi::cutting::mewikofu_cut` meets its contract: each lent place has its part of the answer.
+-- `cut_capi::mewikofu_cut` meets its contract: each lent place has its part of the answer.
 use borrow.Author.Needs.{needs}
 use mathlib.Core.Path.{ap}
 use Rattle.rules.specs.declared.Cut.{Cut}
-use Rattle.capi.proofs.cutting.mewikofu_cut.Statement.{statement}
-use Rattle.capi.proofs.cutting.mewikofu_cut.Tie as tie
+use Rattle.cut_capi.proofs.mewikofu_cut.Statement.{statement}
+use Rattle.cut_capi.proofs.mewikofu_cut.Tie as tie
 
 returns : tie.Need-returns
 returns c =

@@ -1,4 +1,4 @@
-// The cutter for other languages.
+// The cutter for programs in C and other languages; include/mewikofu.h declares it.
 use cutter::cut;
 ghost use mathlib.Core.Path.{_≡_};
 ghost use Rattle.rules.specs.Cutting.{cutAnswer};
