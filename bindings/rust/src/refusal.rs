@@ -82,7 +82,9 @@ impl Refusal {
             MarketMark => "a cap mark or the clawback switch is above 1",
             SideOrAccreditation => "a line's side or accreditation is above 1",
             BidCount => "a bid's count is 0 or above 11",
-            Breaks => "a bid's breaks aren't strictly rising from above 0, or one is above 200,000,000 MJ",
+            Breaks => {
+                "a bid's breaks aren't strictly rising from above 0, or one is above 200,000,000 MJ"
+            }
             Prices => "a bid's price is above 10,000,000, or they fall (withdrawal: rise)",
             UnusedSlot => "an unused slot of a bid isn't 0",
             Hedge => "a hedge is above the line's greatest break, or isn't 0 on a withdrawal",
