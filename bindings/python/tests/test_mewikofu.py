@@ -3,6 +3,8 @@
 usage, from bindings/python, after ./build: python3 -m unittest discover -s tests
 """
 
+import doctest
+import os
 import pickle
 import re
 import sys
@@ -147,6 +149,20 @@ class RefusalTest(unittest.TestCase):
         numbers = [int(n) for n in re.findall(r"#define MEWIKOFU_[A-Z_]+ (\d+) +/\* [a-z, ]+:", header)]
         self.assertEqual(numbers, list(range(1, 19)))
         self.assertEqual([mewikofu.Refusal(n).number for n in numbers], numbers)
+
+
+class PageTest(unittest.TestCase):
+    def test_examples(self):
+        # The page's examples are written for the repository's root.
+        here = os.getcwd()
+        os.chdir(ROOT)
+        try:
+            page = str(HERE.parent / "README.md")
+            tried = doctest.testfile(page, module_relative=False)
+        finally:
+            os.chdir(here)
+        self.assertGreater(tried.attempted, 0)
+        self.assertEqual(tried.failed, 0)
 
 
 class ReportTest(unittest.TestCase):

@@ -49,3 +49,8 @@ pub fn line_part(day: &[u8], k: usize) -> Result<&[u8], Refusal> {
     refusal::accepted(raw::line_part(day, k, &mut at, &mut length))?;
     Ok(&day[at..at + length])
 }
+
+/// The page's example is run with the tests.
+#[cfg(doctest)]
+#[doc = include_str!("../README.md")]
+struct Readme;

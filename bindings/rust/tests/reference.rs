@@ -13,11 +13,11 @@ fn days() -> u64 {
     wanted.map_or(20_000, |wanted| wanted.parse().expect("a number of days"))
 }
 
-/// Seeds in a row; every second day is damaged.
-fn day(k: u64) -> Vec<u8> {
+/// Seeds in a row; every second day is damaged. Boxed, so that memcheck sees a read past the end.
+fn day(k: u64) -> Box<[u8]> {
     match k % 2 {
-        0 => valid_day(k / 2),
-        _ => damaged_day(k / 2),
+        0 => valid_day(k / 2).into(),
+        _ => damaged_day(k / 2).into(),
     }
 }
 
@@ -212,12 +212,12 @@ fn check_cuts(k: u64, day: &[u8], lines: usize, reached: &mut Reached) {
     for line in [0, some(k, 6, lines), lines.saturating_sub(1)] {
         for length in [LINE_BYTES, LINE_BYTES - 1, LINE_BYTES + 1] {
             let start = day_length(line).min(day.len());
-            let bytes = &day[start..(start + length).min(day.len())];
-            let expected = reference::cut::cut(bytes);
+            let bytes: Box<[u8]> = day[start..(start + length).min(day.len())].into();
+            let expected = reference::cut::cut(&bytes);
             reached[expected.number as usize] += 1;
             check_cut(
                 &format!("day {k} line {line} length {length}"),
-                bytes,
+                &bytes,
                 expected,
             );
         }
