@@ -172,6 +172,9 @@ fn draw_day(random: &mut Random) -> Vec<u8> {
         day.truncate(day_length(wanted));
         put_words(&mut day, &header(wanted));
     }
+    if day.len() >= LINES_OFFSET && random.one_in(3) {
+        mutate::scatter(&mut day, random);
+    }
     day
 }
 

@@ -75,12 +75,47 @@ fn change_keeping(day: &mut Vec<u8>, random: &mut Random) {
     if n == 0 {
         return change_any(day, random);
     }
-    match random.below(16) {
+    match random.below(20) {
         0 => change_market(day, n, random),
         1 => change_lines(day, n, random),
+        2 => scatter(day, random),
         _ => {
             let k = random.below(n);
             change_line(line_mut(day, k), random);
+        }
+    }
+}
+
+/// Constrained on quantities that rise and fall from schedule to schedule, at prices that are paid, with clawback: what T is shared for.
+/// Nearly all of the day's steps take part, on both sides.
+pub fn scatter(day: &mut [u8], random: &mut Random) {
+    put_word(day, CLAWBACK, 1);
+    let market = random.pick(&[0, 0, PRICE_LIMIT / 4, PRICE_LIMIT / 2, PRICE_LIMIT]);
+    for s in 0..SCHEDULES {
+        put_word(day, CAP_MARK + s, u32::from(random.one_in(8)));
+        put_word(day, MARKET_PRICE + s, near(market, random).min(PRICE_LIMIT));
+    }
+    for k in 0..lines(day) {
+        let line = line_mut(day, k);
+        put_word(line, ACCREDITATION, 1);
+        let most = greatest_break(line);
+        let exact = random.one_in(2);
+        for s in 0..SCHEDULES {
+            if !random.one_in(4) {
+                (s..SCHEDULES).for_each(|i| put_word(line, pricing_place(s, i), 0));
+            }
+            let total = quantity(line, most, random);
+            let first = random.range(0, total);
+            let start = random.below(SCHEDULES - 1);
+            (0..SCHEDULES).for_each(|i| put_word(line, operating_place(s, i), 0));
+            put_word(line, operating_place(s, start), first);
+            put_word(line, operating_place(s, start + 1), total - first);
+        }
+        for i in 0..SCHEDULES {
+            let last = word(line, operating_place(SCHEDULES - 1, i));
+            let some = random.range(0, last);
+            let actual = if exact { QUANTITY_LIMIT } else { some };
+            put_word(line, actual_place(i), actual);
         }
     }
 }
