@@ -1,0 +1,223 @@
+"""Settlement of one gas day by the proved code of libcapi.a (include/mewikofu.h), for Python programs.
+
+Every function takes any bytes-like object and raises Refusal for the first fault met in the order of document 01's table,
+"Where each refusal is checked". The shared object is made by bindings/python/build; MEWIKOFU_LIBRARY in the environment names another.
+"""
+
+import ctypes
+import operator
+import os
+import struct
+from dataclasses import dataclass
+from pathlib import Path
+
+MOST_LINES = 64
+SCHEDULES = 5
+MOST_STEPS = 56
+MATCHES = 10
+
+# Place and words of the refusals 1 to 18.
+_REFUSALS = {
+    1: ("header", "the file is under 64 bytes"),
+    2: ("header", "the line count is 0 or above 64"),
+    3: ("header", "an offset, the length word or the real length isn't that of the line count"),
+    4: ("market", "a market price or the administered price cap is above 10,000,000"),
+    5: ("market", "a cap mark or the clawback switch is above 1"),
+    6: ("each line", "a line's side or accreditation is above 1"),
+    7: ("each line", "a bid's count is 0 or above 11"),
+    8: ("each line", "a bid's breaks aren't strictly rising from above 0, or one is above 200,000,000 MJ"),
+    9: ("each line", "a bid's price is above 10,000,000, or they fall (withdrawal: rise)"),
+    10: ("each line", "an unused slot of a bid isn't 0"),
+    11: ("each line", "a hedge is above the line's greatest break, or isn't 0 on a withdrawal"),
+    12: ("each line", "a pricing or operating total is above the line's greatest break"),
+    13: ("each line", "an actual is above 200,000,000 MJ"),
+    14: ("all lines", "two lines have equal participant, point and side"),
+    15: ("book", "the lent book is under 96 + 56 n bytes"),
+    16: ("view, line part", "the line isn't below the line count"),
+    17: ("view", "the step isn't below the line's step count"),
+    18: ("cutter", "the line isn't 660 bytes"),
+}
+
+
+class Refusal(Exception):
+    """A refused input: its number, its place in document 01's table and what is wrong in words."""
+
+    def __init__(self, number):
+        self.number = number
+        self.place, self.words = _REFUSALS[number]
+        super().__init__(f'refused {number}: {self.words} (document 01, "Where each refusal is checked", {self.place})')
+
+    def __reduce__(self):
+        return Refusal, (self.number,)
+
+
+@dataclass(frozen=True)
+class BookLine:
+    """One line of a book. Payments are by schedule, in $0.0000001."""
+
+    participant: int
+    point: int
+    withdrawal: bool
+    steps: int
+    payments: tuple
+
+
+@dataclass(frozen=True)
+class Book:
+    """A settled day: lines in the day's order, t and a by schedule in $0.0000001, and the book's bytes."""
+
+    lines: tuple
+    totals: tuple
+    adjusted: tuple
+    data: bytes
+
+
+@dataclass(frozen=True)
+class View:
+    """The figures of one step; tuples are by schedule. Payments are in $0.0000001."""
+
+    end: int
+    width: int
+    actual: int
+    price: tuple
+    flag: tuple
+    operating: tuple
+    pricing: tuple
+    agino: tuple
+    msiq: tuple
+    constrained: tuple
+    matches: tuple
+    initial: tuple
+    revised: tuple
+    modified: tuple
+    finals: tuple
+
+    def match(self, r, s):
+        """m(r, s), schedules 1 to 5, r below s."""
+        if not 1 <= r < s <= SCHEDULES:
+            raise ValueError("r and s are schedules, r below s")
+        return self.matches[(s - 1) * (s - 2) // 2 + r - 1]
+
+
+@dataclass(frozen=True)
+class Cut:
+    """The steps of one line: upper ends; uncapped prices and flags by schedule and step; how many flags are set."""
+
+    ends: tuple
+    prices: tuple
+    flags: tuple
+    missing: tuple
+
+
+def settle(day):
+    """The book of a day."""
+    data = bytearray(book_bytes(MOST_LINES))
+    settle_into(day, data)
+    return _book(bytes(data))
+
+
+def settle_into(day, book):
+    """Settles a day into the lent bytes, a bytearray or another that can be written. Those beyond 96 + 56 n are unchanged; refused, all are."""
+    day = _bytes(day)
+    lent = memoryview(book).cast("B")
+    place = (ctypes.c_uint8 * lent.nbytes).from_buffer(lent)
+    _accept(_library.mewikofu_settle(day, len(day), place, lent.nbytes))
+
+
+def view(day, line, step):
+    """Every figure of a step of a line, both counted from 0."""
+    day = _bytes(day)
+    places = [kind() for kind in _VIEW]
+    _accept(_library.mewikofu_view(day, len(day), _size(line), _size(step), *places))
+    return View(*map(_value, places))
+
+
+def cut(line):
+    """Cuts the 660 bytes of one line into its steps."""
+    line = _bytes(line)
+    count, ends, prices, flags, missing = places = [kind() for kind in _CUT]
+    _accept(_library.mewikofu_cut(line, len(line), *places))
+    steps = range(count.value)
+    return Cut(
+        ends=tuple(ends[k] for k in steps),
+        prices=tuple(tuple(prices[MOST_STEPS * s + k] for k in steps) for s in range(SCHEDULES)),
+        flags=tuple(tuple(bool(flags[s] >> k & 1) for k in steps) for s in range(SCHEDULES)),
+        missing=tuple(missing),
+    )
+
+
+def line_part(day, k):
+    """The bytes of line k (from 0) within the day's own, as a memoryview of them. Only the header is checked."""
+    data = _bytes(day)
+    at, length = ctypes.c_size_t(), ctypes.c_size_t()
+    _accept(_library.mewikofu_line_part(data, len(data), _size(k), at, length))
+    return memoryview(day).cast("B")[at.value : at.value + length.value]
+
+
+def book_bytes(n):
+    """The length of a book of n lines."""
+    return 96 + 56 * n
+
+
+def _book(data):
+    n = struct.unpack_from("<I", data)[0]
+    pairs = struct.unpack_from("<10q", data, 16)
+    entries = struct.iter_unpack("<4I5q", data[96 : book_bytes(n)])
+    lines = tuple(BookLine(entry[0], entry[1], entry[2] == 1, entry[3], entry[4:]) for entry in entries)
+    return Book(lines, pairs[0::2], pairs[1::2], data[: book_bytes(n)])
+
+
+def _bytes(data):
+    """A copy of the caller's bytes, which no call can change."""
+    return memoryview(data).tobytes()
+
+
+def _size(place):
+    """A place from 0. Those that size_t can't hold are beyond every line and step, as its greatest is."""
+    place = operator.index(place)
+    if place < 0:
+        raise ValueError("a line or step counts from 0")
+    return min(place, ctypes.c_size_t(-1).value)
+
+
+def _value(place):
+    return place.value if isinstance(place, ctypes.c_uint32) else tuple(place)
+
+
+def _accept(number):
+    if number != 0:
+        raise Refusal(number)
+
+
+_WORDS = ctypes.c_uint32 * SCHEDULES
+_MONEY = ctypes.c_int64 * SCHEDULES
+# The lent places in the header's order.
+_VIEW = [ctypes.c_uint32] * 3 + [_WORDS] * 7 + [ctypes.c_uint32 * MATCHES] + [_MONEY] * 4
+_CUT = [
+    ctypes.c_uint32,
+    ctypes.c_uint32 * MOST_STEPS,
+    ctypes.c_uint32 * (SCHEDULES * MOST_STEPS),
+    ctypes.c_uint64 * SCHEDULES,
+    _WORDS,
+]
+
+
+def _load():
+    file = os.environ.get("MEWIKOFU_LIBRARY") or Path(__file__).parent / "build-output" / "libmewikofu.so"
+    library = ctypes.CDLL(str(file))
+    data, size = ctypes.c_char_p, ctypes.c_size_t
+    lent = ctypes.POINTER
+    arguments = {
+        "mewikofu_settle": [data, size, ctypes.c_void_p, size],
+        "mewikofu_view": [data, size, size, size, *map(lent, _VIEW)],
+        "mewikofu_line_part": [data, size, size, lent(size), lent(size)],
+        "mewikofu_cut": [data, size, *map(lent, _CUT)],
+    }
+    for name, types in arguments.items():
+        function = getattr(library, name)
+        function.argtypes = types
+        function.restype = ctypes.c_uint32
+    return library
+
+
+_library = _load()

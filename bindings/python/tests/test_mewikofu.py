@@ -1,0 +1,184 @@
+"""The module beside document 01's figures and the reference implementation's reports.
+
+usage, from bindings/python, after ./build: python3 -m unittest discover -s tests
+"""
+
+import doctest
+import os
+import pickle
+import re
+import sys
+import unittest
+from pathlib import Path
+
+HERE = Path(__file__).resolve().parent
+sys.path.insert(0, str(HERE.parent))
+import mewikofu
+
+ROOT = HERE.parents[2]
+K10 = (ROOT / "examples/k10.day").read_bytes()
+REFUSED = (ROOT / "examples/refused.day").read_bytes()
+TABLE_1 = (ROOT / "crates/cut/stdin").read_bytes()
+
+
+def number(call, *arguments):
+    """The number of a refused call."""
+    try:
+        call(*arguments)
+    except mewikofu.Refusal as refusal:
+        return refusal.number
+    return 0
+
+
+def report(book):
+    """The settling program's report of a book (document 01, K10)."""
+    row = lambda *words: " ".join(map(str, words)) + "\n"
+    lines = (row(l.participant, l.point, "WDR" if l.withdrawal else "INJ", l.steps, *l.payments) for l in book.lines)
+    return row("day", len(book.lines)) + "".join(lines) + row("total", *book.totals) + row("adjusted", *book.adjusted)
+
+
+class K10Test(unittest.TestCase):
+    def test_book(self):
+        book = mewikofu.settle(K10)
+        payments = (0, 20000000, 0, -10000000, 0)
+        self.assertEqual(book.lines, (mewikofu.BookLine(7, 3, False, 2, payments),))
+        self.assertEqual(book.totals, payments)
+        self.assertEqual(book.adjusted, (0, 10000000, 0, 0, 0))
+        self.assertEqual(len(book.data), 152)
+
+    def test_first_step(self):
+        # Up to 1000 at 20000, below the market price: no rate. Pricing total 1000 covers it, so nothing is constrained on.
+        none, full = (0,) * 5, (1000,) * 5
+        expected = mewikofu.View(
+            end=1000, width=1000, actual=1000, price=(20000,) * 5, flag=none, operating=full, pricing=full, agino=none,
+            msiq=full, constrained=none, matches=(0,) * 10, initial=none, revised=none, modified=none, finals=none,
+        )
+        self.assertEqual(mewikofu.view(K10, 0, 0), expected)
+
+    def test_second_step(self):
+        # 1000 to 3000 at 50000: rate 20000. Operating totals 1000 2000 2000 1500 1500 and actual 1500, less 1000.
+        # C rises by 1000 in schedule 2 and falls by 500 in 4, which takes 500 of that rise. Clawback is off: finals are initial.
+        none, over = (0,) * 5, (0, 1000, 1000, 500, 500)
+        paid = (0, 20000000, 0, -10000000, 0)
+        step = mewikofu.view(K10, 0, 1)
+        expected = mewikofu.View(
+            end=3000, width=2000, actual=500, price=(50000,) * 5, flag=none, operating=over, pricing=none, agino=none,
+            msiq=none, constrained=over, matches=(0, 0, 0, 0, 500, 0, 0, 0, 0, 0), initial=paid, revised=paid,
+            modified=paid, finals=paid,
+        )
+        self.assertEqual(step, expected)
+        self.assertEqual([step.match(r, 4) for r in (1, 2, 3)], [0, 500, 0])
+
+    def test_places(self):
+        self.assertEqual(number(mewikofu.view, K10, 0, 2), 17)
+        self.assertEqual(number(mewikofu.view, K10, 1, 0), 16)
+        for huge in (2**32, 2**64 - 1, 2**64, 10**30):
+            self.assertEqual(number(mewikofu.view, K10, huge, 0), 16)
+            self.assertEqual(number(mewikofu.view, K10, 0, huge), 17)
+            self.assertEqual(number(mewikofu.line_part, K10, huge), 16)
+        self.assertRaises(ValueError, mewikofu.view, K10, -1, 0)
+        self.assertRaises(TypeError, mewikofu.view, K10, 0.0, 0)
+        self.assertRaises(TypeError, mewikofu.settle, "text")
+
+
+class LentTest(unittest.TestCase):
+    def test_book(self):
+        book = mewikofu.settle(K10).data
+        for room in (0, 1, 95, 96, 151, 152, 153, 216, 4000):
+            lent = bytearray([0xA5]) * room
+            refused = number(mewikofu.settle_into, K10, lent)
+            self.assertEqual(refused, 15 if room < 152 else 0)
+            written = b"" if refused else book
+            self.assertEqual(bytes(lent), written + b"\xa5" * (room - len(written)))
+
+    def test_refused_book(self):
+        lent = bytearray([0xA5]) * 4000
+        self.assertEqual(number(mewikofu.settle_into, REFUSED, lent), 9)
+        self.assertEqual(lent, bytearray([0xA5]) * 4000)
+        self.assertRaises(TypeError, mewikofu.settle_into, K10, bytes(152))
+
+    def test_line_part(self):
+        day = bytearray(K10)
+        part = mewikofu.line_part(day, 0)
+        self.assertEqual(part, K10[64:724])
+        day[64] = 9  # the part is the day's own bytes
+        self.assertEqual(part[0], 9)
+        self.assertEqual(number(mewikofu.line_part, K10, 1), 16)
+        self.assertEqual(number(mewikofu.line_part, K10[:63], 0), 1)
+
+    def test_kinds_of_bytes(self):
+        for kind in (bytes, bytearray, memoryview):
+            self.assertEqual(mewikofu.settle(kind(K10)), mewikofu.settle(K10))
+
+
+class CutTest(unittest.TestCase):
+    def test_k1(self):
+        self.assertEqual(mewikofu.cut(TABLE_1).ends, (15, 16, 17, 30, 32, 34, 37, 45, 48, 51, 60, 64, 68, 75))
+
+    def test_k2(self):
+        steps = mewikofu.cut(TABLE_1)
+        at = steps.ends.index
+        first_reschedule = 1
+        for end, flag in ((64, False), (68, True)):
+            self.assertEqual(steps.prices[first_reschedule][at(end)], 36000)
+            self.assertIs(steps.flags[first_reschedule][at(end)], flag)
+        # Schedule 1 bids up to 75, the first reschedule up to 64, the others up to 68.
+        self.assertEqual(steps.missing, (0, 2, 1, 1, 1))
+
+    def test_refused(self):
+        self.assertEqual(number(mewikofu.cut, TABLE_1[:659]), 18)
+        self.assertEqual(number(mewikofu.cut, TABLE_1 + b"\0"), 18)
+        self.assertEqual(number(mewikofu.cut, bytes(660)), 7)
+
+
+class RefusalTest(unittest.TestCase):
+    def test_refused_day(self):
+        with self.assertRaises(mewikofu.Refusal) as caught:
+            mewikofu.settle(REFUSED)
+        refusal = caught.exception
+        self.assertEqual((refusal.number, refusal.place), (9, "each line"))
+        self.assertIn("a bid's price is above 10,000,000, or they fall", str(refusal))
+        self.assertEqual(pickle.loads(pickle.dumps(refusal)).number, 9)
+        self.assertEqual(number(mewikofu.view, REFUSED, 0, 0), 9)
+
+    def test_short_files(self):
+        self.assertEqual([number(mewikofu.settle, day) for day in (b"", K10[:63], bytes(64), K10[:-1])], [1, 1, 2, 3])
+
+    def test_every_number_has_words(self):
+        header = (ROOT / "include/mewikofu.h").read_text()
+        numbers = [int(n) for n in re.findall(r"#define MEWIKOFU_[A-Z_]+ (\d+) +/\* [a-z, ]+:", header)]
+        self.assertEqual(numbers, list(range(1, 19)))
+        self.assertEqual([mewikofu.Refusal(n).number for n in numbers], numbers)
+
+
+class PageTest(unittest.TestCase):
+    def test_examples(self):
+        # The page's examples are written for the repository's root.
+        here = os.getcwd()
+        os.chdir(ROOT)
+        try:
+            page = str(HERE.parent / "README.md")
+            tried = doctest.testfile(page, module_relative=False)
+        finally:
+            os.chdir(here)
+        self.assertGreater(tried.attempted, 0)
+        self.assertEqual(tried.failed, 0)
+
+
+class ReportTest(unittest.TestCase):
+    def test_example_days(self):
+        for name in ("k10", "both-sides", "withdrawals"):
+            day = (ROOT / f"examples/{name}.day").read_bytes()
+            self.assertEqual(report(mewikofu.settle(day)), (ROOT / f"examples/{name}.report").read_text())
+
+    def test_steps(self):
+        # A line's payments are the sums of its steps' finals.
+        day = (ROOT / "examples/both-sides.day").read_bytes()
+        for k, line in enumerate(mewikofu.settle(day).lines):
+            finals = [mewikofu.view(day, k, step).finals for step in range(line.steps)]
+            self.assertEqual(tuple(map(sum, zip(*finals))), line.payments)
+            self.assertEqual(number(mewikofu.view, day, k, line.steps), 17)
+
+
+if __name__ == "__main__":
+    unittest.main()

@@ -1,0 +1,75 @@
+//! The answers of the step view and the cutter (document 01, "Totals and book", "Steps and prices").
+
+use crate::{MATCHES, MOST_STEPS, SCHEDULES};
+
+/// The figures of one step; arrays are by schedule.
+#[derive(Clone, Debug, Default, PartialEq, Eq)]
+pub struct View {
+    /// The upper end and the width, in MJ.
+    pub end: u32,
+    pub width: u32,
+    /// A, the effective actual.
+    pub actual: u32,
+    /// Capped, in $0.0001 per GJ.
+    pub price: [u32; SCHEDULES],
+    /// 1 where the bid has no price for the step.
+    pub flag: [u32; SCHEDULES],
+    /// O.
+    pub operating: [u32; SCHEDULES],
+    /// E.
+    pub pricing: [u32; SCHEDULES],
+    pub agino: [u32; SCHEDULES],
+    pub msiq: [u32; SCHEDULES],
+    /// C.
+    pub constrained: [u32; SCHEDULES],
+    /// m(r, s) at `match_place(r, s)`.
+    pub matches: [u32; MATCHES],
+    /// Payments, in $0.0000001.
+    pub initial: [i64; SCHEDULES],
+    pub revised: [i64; SCHEDULES],
+    pub modified: [i64; SCHEDULES],
+    pub finals: [i64; SCHEDULES],
+}
+
+/// The place of m(r, s) among the matches, with r below s, schedules counted from 0.
+pub const fn match_place(r: usize, s: usize) -> usize {
+    s * (s - 1) / 2 + r
+}
+
+/// The steps of one line. Places past the count are 0.
+#[derive(Clone, Debug, PartialEq, Eq)]
+pub struct Cut {
+    pub count: u32,
+    /// Upper ends in MJ, rising.
+    pub ends: [u32; MOST_STEPS],
+    /// Uncapped prices by schedule and step.
+    pub prices: [[u32; MOST_STEPS]; SCHEDULES],
+    /// By schedule: bit k is 1 where the bid has no price for step k.
+    pub flags: [u64; SCHEDULES],
+    /// By schedule: how many flags are 1.
+    pub missing: [u32; SCHEDULES],
+}
+
+impl Default for Cut {
+    fn default() -> Cut {
+        Cut {
+            count: 0,
+            ends: [0; MOST_STEPS],
+            prices: [[0; MOST_STEPS]; SCHEDULES],
+            flags: [0; SCHEDULES],
+            missing: [0; SCHEDULES],
+        }
+    }
+}
+
+impl Cut {
+    /// The upper ends of the line's steps.
+    pub fn ends(&self) -> &[u32] {
+        &self.ends[..self.count as usize]
+    }
+
+    /// Whether the bid of a schedule has no price for a step, both counted from 0.
+    pub fn flag(&self, schedule: usize, step: usize) -> bool {
+        step < MOST_STEPS && self.flags[schedule] >> step & 1 == 1
+    }
+}

@@ -1,0 +1,56 @@
+//! Settlement of one gas day by the proved code of `libcapi.a` (include/mewikofu.h), for Rust programs.
+//!
+//! Every function takes any bytes. A refusal is the first fault met in the order of document 01's table, "Where each refusal is checked".
+
+mod answers;
+mod book;
+pub mod raw;
+mod refusal;
+
+pub use answers::{match_place, Cut, View};
+pub use book::{book_bytes, Book, BookLine, Side};
+pub use refusal::Refusal;
+
+pub const MOST_LINES: usize = 64;
+pub const SCHEDULES: usize = 5;
+pub const MOST_STEPS: usize = 56;
+pub const MATCHES: usize = 10;
+pub const LINE_BYTES: usize = 660;
+
+/// Settles a day into a book of its own.
+pub fn settle(day: &[u8]) -> Result<Book, Refusal> {
+    let mut bytes = vec![0; book_bytes(MOST_LINES)];
+    settle_into(day, &mut bytes)?;
+    Ok(Book::written(bytes))
+}
+
+/// Settles a day into the lent bytes. Those beyond the book's 96 + 56 n are unchanged; refused, all are.
+pub fn settle_into(day: &[u8], book: &mut [u8]) -> Result<(), Refusal> {
+    refusal::accepted(raw::settle(day, book))
+}
+
+/// Every figure of a step of a line, both counted from 0.
+pub fn view(day: &[u8], line: usize, step: usize) -> Result<View, Refusal> {
+    let mut view = View::default();
+    refusal::accepted(raw::view(day, line, step, &mut view))?;
+    Ok(view)
+}
+
+/// Cuts the 660 bytes of one line into its steps.
+pub fn cut(line: &[u8]) -> Result<Cut, Refusal> {
+    let mut cut = Cut::default();
+    refusal::accepted(raw::cut(line, &mut cut))?;
+    Ok(cut)
+}
+
+/// The bytes of line k (from 0) within the day's own. Only the day's header is checked.
+pub fn line_part(day: &[u8], k: usize) -> Result<&[u8], Refusal> {
+    let (mut at, mut length) = (0, 0);
+    refusal::accepted(raw::line_part(day, k, &mut at, &mut length))?;
+    Ok(&day[at..at + length])
+}
+
+/// The page's example is run with the tests.
+#[cfg(doctest)]
+#[doc = include_str!("../README.md")]
+struct Readme;

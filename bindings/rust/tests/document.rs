@@ -1,0 +1,74 @@
+//! The binding beside document 01 and include/mewikofu.h.
+
+use mewikofu::{cut, line_part, match_place, settle, view, Refusal, Side};
+
+const K10: &[u8] = include_bytes!("../../../examples/k10.day");
+const REFUSED: &[u8] = include_bytes!("../../../examples/refused.day");
+const TABLE_1: &[u8] = include_bytes!("../../../crates/cut/stdin");
+const HEADER: &str = include_str!("../../../include/mewikofu.h");
+
+#[test]
+fn k10() {
+    let book = settle(K10).unwrap();
+    assert_eq!(book.line_count(), 1);
+    assert_eq!(book.totals(), [0, 20_000_000, 0, -10_000_000, 0]);
+    assert_eq!(book.adjusted(), [0, 10_000_000, 0, 0, 0]);
+    let line = book.lines().next().unwrap();
+    assert_eq!(
+        (line.participant, line.point, line.side, line.steps),
+        (7, 3, Side::Injection, 2)
+    );
+    assert_eq!(line.payments, [0, 20_000_000, 0, -10_000_000, 0]);
+    let step = view(K10, 0, 1).unwrap();
+    assert_eq!(step.constrained, [0, 1000, 1000, 500, 500]);
+    assert_eq!(step.matches[match_place(1, 3)], 500);
+    assert_eq!(line_part(K10, 0).map(<[u8]>::len), Ok(660));
+}
+
+#[test]
+fn k1_and_k2() {
+    let steps = cut(TABLE_1).unwrap();
+    assert_eq!(
+        steps.ends(),
+        [15, 16, 17, 30, 32, 34, 37, 45, 48, 51, 60, 64, 68, 75]
+    );
+    assert_eq!((steps.prices[1][11], steps.flag(1, 11)), (36_000, false));
+    assert_eq!((steps.prices[1][12], steps.flag(1, 12)), (36_000, true));
+}
+
+#[test]
+fn a_refused_day() {
+    let refusal = settle(REFUSED).unwrap_err();
+    assert_eq!(refusal, Refusal::Prices);
+    assert_eq!(view(REFUSED, 0, 0), Err(Refusal::Prices));
+    let text = refusal.to_string();
+    assert!(
+        text.starts_with("refused 9: a bid's price is above 10,000,000"),
+        "{text}"
+    );
+    assert!(
+        text.ends_with("(document 01, \"Where each refusal is checked\", each line)"),
+        "{text}"
+    );
+}
+
+/// MEWIKOFU_FILE_SHORT is FileShort, and so on for all eighteen, in the header's order.
+#[test]
+fn refusals_are_the_headers() {
+    let rest = HEADER.split("#define MEWIKOFU_ACCEPTED 0").nth(1).unwrap();
+    let defined = rest.lines().skip(1).take(18).map(|line| {
+        let mut words = line.split_whitespace().skip(1);
+        let name = words
+            .next()
+            .unwrap()
+            .trim_start_matches("MEWIKOFU_")
+            .replace('_', "");
+        (name, words.next().unwrap().parse().unwrap())
+    });
+    let own = Refusal::ALL.map(|refusal| (format!("{refusal:?}").to_uppercase(), refusal.number()));
+    assert_eq!(defined.collect::<Vec<(String, u32)>>(), own);
+    for refusal in Refusal::ALL {
+        assert_eq!(Refusal::of_number(refusal.number()), Some(refusal));
+    }
+    assert_eq!([0, 19, u32::MAX].map(Refusal::of_number), [None; 3]);
+}

@@ -1,0 +1,249 @@
+//! The binding beside the reference implementation, on generated days without fault and damaged.
+//! MEWIKOFU_DAYS in the environment is how many days, 20,000 where it isn't set.
+
+use mewikofu::{book_bytes, cut, line_part, raw, settle, settle_into, view, Refusal, Side};
+use reference::generate::{damaged_day, valid_day};
+use reference::layout::{day_length, signed, word, LINE_BYTES, MOST_LINES};
+
+/// Places beyond every line and step.
+const HUGE: [usize; 4] = [1 << 32, (1 << 32) + 1, usize::MAX / 660, usize::MAX];
+
+fn days() -> u64 {
+    let wanted = std::env::var("MEWIKOFU_DAYS").ok();
+    wanted.map_or(20_000, |wanted| wanted.parse().expect("a number of days"))
+}
+
+/// Seeds in a row; every second day is damaged. Boxed, so that memcheck sees a read past the end.
+fn day(k: u64) -> Box<[u8]> {
+    match k % 2 {
+        0 => valid_day(k / 2).into(),
+        _ => damaged_day(k / 2).into(),
+    }
+}
+
+/// Some number below n, from the day's own number.
+fn some(k: u64, salt: u64, n: usize) -> usize {
+    let mixed = (k + 1)
+        .wrapping_mul(0x9E37_79B9_7F4A_7C15)
+        .rotate_left(salt as u32 % 64)
+        ^ salt;
+    (mixed.wrapping_mul(0xD6E8_FEB8_6659_FD93) >> 32) as usize % n.max(1)
+}
+
+fn refused<T>(number: u32) -> Result<T, Refusal> {
+    Err(Refusal::of_number(number).expect("a number from 1 to 18"))
+}
+
+/// How often each number was answered, so that the test shows what it reached.
+type Reached = [u64; 19];
+
+#[test]
+fn generated_days() {
+    let mut reached = [0; 19];
+    let count = days();
+    for k in 0..count {
+        let day = day(k);
+        let before = day.clone();
+        // Whole lines that the bytes have room for; the header may say another count.
+        let lines = day.len().saturating_sub(64) / LINE_BYTES;
+        check_settling(k, &day, lines.min(MOST_LINES), &mut reached);
+        check_views(k, &day, lines, &mut reached);
+        check_parts(k, &day, lines, &mut reached);
+        check_cuts(k, &day, lines, &mut reached);
+        assert_eq!(day, before, "day {k} was changed");
+    }
+    println!("{count} days; answers of each number 0 to 18: {reached:?}");
+    if count >= 1_000 {
+        assert!(reached.iter().all(|&times| times > 0), "{reached:?}");
+    }
+}
+
+/// A book just long enough, one byte too short, and longer by 1 to 64 bytes.
+fn check_settling(k: u64, day: &[u8], lines: usize, reached: &mut Reached) {
+    let least = book_bytes(lines);
+    for room in [least, least - 1, least + 1 + some(k, 1, 64)] {
+        let pattern: Vec<u8> = (0..room).map(|at| (at as u64 * 37 + k) as u8 | 1).collect();
+        let mut expected = pattern.clone();
+        let number = reference::settle::settle(day, &mut expected);
+        let mut book = pattern.clone();
+        let answer = settle_into(day, &mut book);
+        reached[number as usize] += 1;
+        match number {
+            0 => assert_eq!(answer, Ok(()), "day {k} room {room}"),
+            _ => assert_eq!(answer, refused(number), "day {k} room {room}"),
+        }
+        assert!(book == expected, "day {k} room {room}: books differ");
+        let written = if number == 0 { least } else { 0 };
+        assert_eq!(book[written..], pattern[written..], "day {k} room {room}");
+    }
+    check_book(k, day, lines);
+}
+
+/// The book's accessors.
+fn check_book(k: u64, day: &[u8], lines: usize) {
+    let mut expected = vec![0; book_bytes(MOST_LINES)];
+    let number = reference::settle::settle(day, &mut expected);
+    if number != 0 {
+        return assert_eq!(settle(day), refused(number), "day {k}");
+    }
+    expected.truncate(book_bytes(lines));
+    let book = settle(day).unwrap();
+    assert!(book.as_bytes() == expected, "day {k}");
+    assert_eq!((book.line_count(), book.lines().len()), (lines, lines));
+    let five = |at, apart| std::array::from_fn(|s| signed(&expected, at + apart * s));
+    assert_eq!(
+        (book.totals(), book.adjusted()),
+        (five(16, 16), five(24, 16))
+    );
+    for (j, line) in book.lines().enumerate() {
+        let entry = 24 + 14 * j;
+        let side = [Side::Injection, Side::Withdrawal][word(&expected, entry + 2) as usize];
+        let key = [entry, entry + 1, entry + 3].map(|place| word(&expected, place));
+        assert_eq!(
+            [line.participant, line.point, line.steps],
+            key,
+            "day {k} line {j}"
+        );
+        assert_eq!((line.side, line.payments), (side, five(4 * entry + 16, 8)));
+    }
+}
+
+fn check_views(k: u64, day: &[u8], lines: usize, reached: &mut Reached) {
+    let (line, last) = (some(k, 2, lines), lines.saturating_sub(1));
+    let steps = |line| match day.get(day_length(line)..day_length(line + 1)) {
+        Some(bytes) => reference::cut::cut(bytes).count as usize,
+        None => 0,
+    };
+    let huge = HUGE[some(k, 3, 4)];
+    for (line, step) in [
+        (0, 0),
+        (line, some(k, 4, steps(line))),
+        (last, steps(last).saturating_sub(1)),
+        (line, steps(line)),
+        (lines, 0),
+        (line, huge),
+        (huge, 0),
+        (huge, huge),
+    ] {
+        let expected = reference::view::view(day, line as u64, step as u64);
+        reached[expected.number as usize] += 1;
+        check_view(
+            &format!("day {k} line {line} step {step}"),
+            day,
+            line,
+            step,
+            expected,
+        );
+    }
+}
+
+fn check_view(at: &str, day: &[u8], line: usize, step: usize, expected: reference::view::View) {
+    let number = expected.number;
+    let expected = mewikofu::View {
+        end: expected.upper,
+        width: expected.width,
+        actual: expected.actual,
+        price: expected.price,
+        flag: expected.flag,
+        operating: expected.operating,
+        pricing: expected.pricing,
+        agino: expected.agino,
+        msiq: expected.msiq,
+        constrained: expected.constrained_on,
+        matches: expected.matches,
+        initial: expected.initial,
+        revised: expected.revised,
+        modified: expected.modified,
+        finals: expected.finals,
+    };
+    match number {
+        0 => assert_eq!(view(day, line, step).as_ref(), Ok(&expected), "{at}"),
+        _ => assert_eq!(view(day, line, step), refused(number), "{at}"),
+    }
+    // Every lent place is written, with 0 where the view is refused.
+    let mut places = mewikofu::View {
+        end: u32::MAX,
+        width: u32::MAX,
+        actual: u32::MAX,
+        price: [u32::MAX; 5],
+        flag: [u32::MAX; 5],
+        operating: [u32::MAX; 5],
+        pricing: [u32::MAX; 5],
+        agino: [u32::MAX; 5],
+        msiq: [u32::MAX; 5],
+        constrained: [u32::MAX; 5],
+        matches: [u32::MAX; 10],
+        initial: [i64::MIN; 5],
+        revised: [i64::MIN; 5],
+        modified: [i64::MIN; 5],
+        finals: [i64::MIN; 5],
+    };
+    assert_eq!(raw::view(day, line, step, &mut places), number, "{at}");
+    assert_eq!(places, expected, "{at}");
+}
+
+fn check_parts(k: u64, day: &[u8], lines: usize, reached: &mut Reached) {
+    let places = [
+        0,
+        some(k, 5, lines),
+        lines.saturating_sub(1),
+        lines,
+        lines + 1,
+    ];
+    for place in places.into_iter().chain(HUGE) {
+        let number = reference::refusal::line_part_number(day, place as u64);
+        let expected = reference::line_part::line_part(day, place as u64);
+        reached[number as usize] += 1;
+        match (line_part(day, place), number) {
+            // The day's own bytes, not only equal ones.
+            (Ok(part), 0) => assert_eq!(part.as_ptr_range(), expected.as_ptr_range()),
+            (answer, _) => assert_eq!(answer, refused(number), "day {k} line {place}"),
+        }
+        let (mut at, mut length) = (usize::MAX, usize::MAX);
+        assert_eq!(raw::line_part(day, place, &mut at, &mut length), number);
+        if number != 0 {
+            assert_eq!((at, length), (0, 0), "day {k} line {place}");
+        }
+    }
+}
+
+/// Some lines of the day and bytes that are too short or too long by one.
+fn check_cuts(k: u64, day: &[u8], lines: usize, reached: &mut Reached) {
+    for line in [0, some(k, 6, lines), lines.saturating_sub(1)] {
+        for length in [LINE_BYTES, LINE_BYTES - 1, LINE_BYTES + 1] {
+            let start = day_length(line).min(day.len());
+            let bytes: Box<[u8]> = day[start..(start + length).min(day.len())].into();
+            let expected = reference::cut::cut(&bytes);
+            reached[expected.number as usize] += 1;
+            check_cut(
+                &format!("day {k} line {line} length {length}"),
+                &bytes,
+                expected,
+            );
+        }
+    }
+}
+
+fn check_cut(at: &str, bytes: &[u8], expected: reference::cut::Cut) {
+    let number = expected.number;
+    let expected = mewikofu::Cut {
+        count: expected.count,
+        ends: expected.ends,
+        prices: expected.prices,
+        flags: expected.flags,
+        missing: expected.missing,
+    };
+    match number {
+        0 => assert_eq!(cut(bytes).as_ref(), Ok(&expected), "{at}"),
+        _ => assert_eq!(cut(bytes), refused(number), "{at}"),
+    }
+    let mut places = mewikofu::Cut {
+        count: u32::MAX,
+        ends: [u32::MAX; 56],
+        prices: [[u32::MAX; 56]; 5],
+        flags: [u64::MAX; 5],
+        missing: [u32::MAX; 5],
+    };
+    assert_eq!(raw::cut(bytes, &mut places), number, "{at}");
+    assert_eq!(places, expected, "{at}");
+}

@@ -1,0 +1,92 @@
+/* Settles the day file named on the command line and prints its lines and totals.
+   Ends with 0 where the day is settled, 1 where it is refused, 2 where the file can't be read. */
+#include "mewikofu.h"
+
+#include <inttypes.h>
+#include <stdio.h>
+
+/* One byte more than the longest day: a file that fills it is refused as it would be whole, since no day is so long. */
+static uint8_t day[MEWIKOFU_DAY_BYTES(MEWIKOFU_MOST_LINES) + 1];
+static uint8_t book[MEWIKOFU_BOOK_BYTES(MEWIKOFU_MOST_LINES)];
+
+static const char *const refusals[] = {
+    [MEWIKOFU_FILE_SHORT] = "the file is under 64 bytes",
+    [MEWIKOFU_LINE_COUNT] = "the line count is 0 or above 64",
+    [MEWIKOFU_LAYOUT] = "an offset, the length word or the real length isn't that of the line count",
+    [MEWIKOFU_MARKET_PRICE] = "a market price or the administered price cap is above 10,000,000",
+    [MEWIKOFU_MARKET_MARK] = "a cap mark or the clawback switch is above 1",
+    [MEWIKOFU_SIDE_OR_ACCREDITATION] = "a line's side or accreditation is above 1",
+    [MEWIKOFU_BID_COUNT] = "a bid's count is 0 or above 11",
+    [MEWIKOFU_BREAKS] = "a bid's breaks aren't strictly rising from above 0, or one is above 200,000,000 MJ",
+    [MEWIKOFU_PRICES] = "a bid's price is above 10,000,000, or they fall (withdrawal: rise)",
+    [MEWIKOFU_UNUSED_SLOT] = "an unused slot of a bid isn't 0",
+    [MEWIKOFU_HEDGE] = "a hedge is above the line's greatest break, or isn't 0 on a withdrawal",
+    [MEWIKOFU_TOTALS] = "a pricing or operating total is above the line's greatest break",
+    [MEWIKOFU_ACTUALS] = "an actual is above 200,000,000 MJ",
+    [MEWIKOFU_EQUAL_KEYS] = "two lines have equal participant, point and side",
+    [MEWIKOFU_BOOK_SHORT] = "the lent book is under 96 + 56 n bytes",
+};
+
+static uint32_t word(const uint8_t *at)
+{
+    return (uint32_t)at[0] | (uint32_t)at[1] << 8 | (uint32_t)at[2] << 16 | (uint32_t)at[3] << 24;
+}
+
+/* A signed 64-bit number of $0.0000001, in dollars. */
+static void print_money(const uint8_t *at)
+{
+    uint64_t bits = (uint64_t)word(at + 4) << 32 | word(at);
+    int negative = (int)(bits >> 63);
+    uint64_t amount = negative ? 0 - bits : bits;
+    char text[40];
+    snprintf(text, sizeof text, "%s%" PRIu64 ".%07" PRIu64, negative ? "-" : "", amount / 10000000, amount % 10000000);
+    printf(" %20s", text);
+}
+
+static void print_line(const uint8_t *entry)
+{
+    const char *side = word(entry + MEWIKOFU_SIDE) == 0 ? "injection" : "withdrawal";
+    printf("participant %" PRIu32 ", point %" PRIu32 ", %s, steps %" PRIu32 "\n", word(entry + MEWIKOFU_PARTICIPANT),
+           word(entry + MEWIKOFU_POINT), side, word(entry + MEWIKOFU_STEPS));
+    printf("payments");
+    for (int s = 0; s < MEWIKOFU_SCHEDULES; s++)
+        print_money(entry + MEWIKOFU_PAYMENT(s));
+    printf("\n");
+}
+
+static void print_book(void)
+{
+    printf("lines: %" PRIu32 "; dollars in schedules 1 to 5\n", word(book));
+    for (uint32_t k = 0; k < word(book); k++)
+        print_line(book + MEWIKOFU_ENTRY_AT(k));
+    printf("day\ntotals  ");
+    for (int s = 0; s < MEWIKOFU_SCHEDULES; s++)
+        print_money(book + MEWIKOFU_TOTAL_AT(s));
+    printf("\nadjusted");
+    for (int s = 0; s < MEWIKOFU_SCHEDULES; s++)
+        print_money(book + MEWIKOFU_ADJUSTED_AT(s));
+    printf("\n");
+}
+
+int main(int count, char **arguments)
+{
+    FILE *file = count == 2 ? fopen(arguments[1], "rb") : NULL;
+    if (file == NULL) {
+        fprintf(stderr, "usage: settle DAY, a file that can be read\n");
+        return 2;
+    }
+    size_t length = fread(day, 1, sizeof day, file);
+    int unread = ferror(file);
+    fclose(file);
+    if (unread) {
+        fprintf(stderr, "%s can't be read\n", arguments[1]);
+        return 2;
+    }
+    uint32_t number = mewikofu_settle(day, length, book, sizeof book);
+    if (number != MEWIKOFU_ACCEPTED) {
+        printf("refused %" PRIu32 ": %s\n", number, refusals[number]);
+        return 1;
+    }
+    print_book();
+    return 0;
+}
