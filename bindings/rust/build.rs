@@ -1,4 +1,5 @@
-//! Links target/staticlib/libcapi.a of this repository, which `rt staticlib capi` writes, or that of the folder MEWIKOFU_ARCHIVE_FOLDER.
+//! Links libcapi.a and libcut_capi.a of this repository's target/staticlib, which `rt staticlib` writes, or those of the folder
+//! MEWIKOFU_ARCHIVE_FOLDER.
 
 use std::path::{Path, PathBuf};
 
@@ -8,12 +9,14 @@ fn main() {
         Some(folder) => PathBuf::from(folder),
         None => Path::new(env!("CARGO_MANIFEST_DIR")).join("../../target/staticlib"),
     };
-    let archive = folder.join("libcapi.a");
-    println!("cargo:rerun-if-changed={}", archive.display());
-    assert!(
-        archive.exists(),
-        "target/staticlib/libcapi.a is missing: run `rt staticlib capi` in the repository"
-    );
     println!("cargo:rustc-link-search=native={}", folder.display());
-    println!("cargo:rustc-link-lib=static=capi");
+    for name in ["capi", "cut_capi"] {
+        let archive = folder.join(format!("lib{name}.a"));
+        println!("cargo:rerun-if-changed={}", archive.display());
+        assert!(
+            archive.exists(),
+            "target/staticlib/lib{name}.a is missing: run `rt staticlib {name}` in the repository"
+        );
+        println!("cargo:rustc-link-lib=static={name}");
+    }
 }

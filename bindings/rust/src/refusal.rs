@@ -118,6 +118,6 @@ pub(crate) fn accepted(number: u32) -> Result<(), Refusal> {
     match (number, Refusal::of_number(number)) {
         (0, _) => Ok(()),
         (_, Some(refusal)) => Err(refusal),
-        (_, None) => panic!("libcapi.a answered {number}: it isn't the archive of this repository"),
+        (_, None) => panic!("the archive answered {number}: it isn't one of this repository"),
     }
 }
