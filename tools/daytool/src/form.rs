@@ -5,7 +5,6 @@ use reference::layout::*;
 /// A text has at most so many lines, so that its file is within the bytes that the programs read.
 pub const MOST_TEXT_LINES: usize = 99;
 
-const LINE_WORDS: usize = LINE_BYTES / 4;
 const HEADER_WORDS: usize = MARKET_OFFSET / 4;
 const BID_WORDS: usize = 1 + 2 * BID_SLOTS;
 
@@ -47,15 +46,6 @@ impl Section {
             Section::Header => "[header]",
             Section::Market => "[market]",
             Section::Line => "[line]",
-        }
-    }
-
-    /// The words that the section's places count in.
-    pub fn words(self) -> usize {
-        match self {
-            Section::Header => HEADER_WORDS,
-            Section::Market => LINES_OFFSET / 4,
-            Section::Line => LINE_WORDS,
         }
     }
 

@@ -19,6 +19,8 @@ const USAGE: &str = "usage: daytool make [--check] < TEXT
 
 /// What goes to standard output, or a message.
 type Answer = Result<Vec<u8>, String>;
+/// From standard input to the answer.
+type Command = Box<dyn Fn(&[u8]) -> Answer>;
 
 fn main() -> ExitCode {
     let arguments: Vec<String> = std::env::args().skip(1).collect();
@@ -37,7 +39,7 @@ fn main() -> ExitCode {
 }
 
 /// What the arguments ask for, if they are known ones.
-fn command(arguments: &[&str]) -> Option<Box<dyn Fn(&[u8]) -> Answer>> {
+fn command(arguments: &[&str]) -> Option<Command> {
     Some(match *arguments {
         ["make"] => Box::new(make_day),
         ["make", "--check"] => Box::new(|text| make_day(text).map(|day| check(&day))),

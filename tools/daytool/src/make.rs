@@ -49,6 +49,8 @@ pub fn make(text: &[u8]) -> Parsed<Vec<u8>> {
             return fault(line, "the text isn't UTF-8".to_string());
         }
     };
+    // Some editors put this mark before the text.
+    let text = text.strip_prefix('\u{feff}').unwrap_or(text);
     assemble(&read_blocks(text)?, text.lines().count())
 }
 

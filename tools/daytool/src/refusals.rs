@@ -1,5 +1,7 @@
 //! Refusals in words (01 "Where each refusal is checked").
 
+use crate::form::Kind;
+use crate::values::{write_value, Unit};
 use reference::layout::{day_length, word, LINE_BYTES, SIDE};
 use reference::refusal::{cut_number, day_number};
 
@@ -56,9 +58,5 @@ fn place(day: &[u8], number: u32) -> String {
 
 /// INJ, WDR, or the number of no side.
 pub fn side_name(word: u32) -> String {
-    crate::values::write_value(
-        crate::form::Kind::Side,
-        word,
-        crate::values::Unit::PriceUnits,
-    )
+    write_value(Kind::Side, word, Unit::PriceUnits)
 }

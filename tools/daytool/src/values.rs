@@ -103,7 +103,7 @@ fn read_bid(key: &str, text: &str) -> Read<Vec<u32>> {
     words[0] = count as u32;
     for (slot, step) in tokens.chunks(3).enumerate() {
         let &[end, "@", price] = step else {
-            let step = step.concat();
+            let step = step.join(" ");
             return Err(format!("'{step}' is not break@price, such as 1000@20000"));
         };
         words[1 + slot] = read_number(end)?;

@@ -122,10 +122,15 @@ struct Plots<'a> {
 impl<'a> Plots<'a> {
     fn new(figures: &'a Figures, axes: &'a Axes, s: usize) -> Plots<'a> {
         let end = figures.greatest_end();
+        // Long labels need more room.
+        let intervals = match axes.energy.write(end).len() {
+            0..=5 => 3,
+            _ => 2,
+        };
         Plots {
             figures,
             axes,
-            along: Axis::exact(end, 3, column_left(s), column_right(s)),
+            along: Axis::exact(end, intervals, column_left(s), column_right(s)),
             s,
         }
     }
