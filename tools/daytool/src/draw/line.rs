@@ -122,15 +122,18 @@ struct Plots<'a> {
 impl<'a> Plots<'a> {
     fn new(figures: &'a Figures, axes: &'a Axes, s: usize) -> Plots<'a> {
         let end = figures.greatest_end();
+        let along = |intervals| Axis::exact(end, intervals, column_left(s), column_right(s));
         // Long labels need more room.
-        let intervals = match axes.energy.write(end).len() {
-            0..=5 => 3,
-            _ => 2,
+        let is_long = |&tick: &i64| axes.energy.write(tick).len() > 5;
+        let intervals = if along(3).ticks.iter().any(is_long) {
+            2
+        } else {
+            3
         };
         Plots {
             figures,
             axes,
-            along: Axis::exact(end, intervals, column_left(s), column_right(s)),
+            along: along(intervals),
             s,
         }
     }

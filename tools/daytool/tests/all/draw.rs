@@ -4,9 +4,9 @@ use crate::svg::{elements, room, Element, Room};
 use crate::{run, stored};
 use daytool::draw::draw;
 use daytool::make::make;
-use reference::generate::valid_day;
+use reference::generate::{small_day, valid_day};
 use reference::layout::{word, SCHEDULES};
-use reference::view::view;
+use reference::view::{view, View};
 
 /// Colours of the bars, as the page's legend has them.
 const TOTAL: &str = "#2b6cb0";
@@ -144,6 +144,144 @@ fn bars_of_constrained_on() {
             assert!((bar.number("height") - expected).abs() < 0.2);
         }
     }
+}
+
+/// The plots of one schedule: places of prices, from the labels at the left, and of quantities along the steps.
+struct Plot {
+    left: f64,
+    /// From MJ to places on the page.
+    along: f64,
+    /// Place of the price 0, and from price units to places.
+    zero: f64,
+    scale: f64,
+    /// Upper and lower end of the prices' plot.
+    top: f64,
+    bottom: f64,
+}
+
+impl Plot {
+    /// None where the prices' axis has one label only.
+    fn new(page: &[Element], s: usize, end: u32) -> Option<Plot> {
+        let labels = page
+            .iter()
+            .filter(|e| e.name == "text" && e.attribute("x") == "180.0");
+        let labels = labels.filter(|label| label.text.starts_with('$'));
+        let price = |text: &str| text.replace(['$', ','], "").parse::<f64>().unwrap() * 10_000.0;
+        let places = labels.map(|label| (price(&label.text), label.number("y") - 4.0));
+        let places: Vec<(f64, f64)> = places.collect();
+        let (&(low, bottom), &(high, top)) = (places.first()?, places.last()?);
+        let scale = (top - bottom) / (high - low);
+        (places.len() > 1).then_some(Plot {
+            left: 190.0 + 208.0 * s as f64,
+            along: 182.0 / f64::from(end),
+            zero: bottom - low * scale,
+            scale,
+            top,
+            bottom,
+        })
+    }
+
+    fn x(&self, quantity: u32) -> f64 {
+        self.left + self.along * f64::from(quantity)
+    }
+
+    fn y(&self, price: u32) -> f64 {
+        self.zero + self.scale * f64::from(price)
+    }
+
+    /// Whether an element with these attributes begins within the prices' plot.
+    fn has(&self, element: &Element, x: &str, y: &str) -> bool {
+        let (x, y) = (element.number(x), element.number(y));
+        let across = x > self.left - 0.2 && x < self.left + 182.2;
+        across && y > self.top - 0.2 && y < self.bottom + 0.2
+    }
+
+    /// Lines of a colour and width: both ends of each.
+    fn lines(&self, page: &[Element], colour: &str, width: &str) -> Vec<[f64; 4]> {
+        let lines = page
+            .iter()
+            .filter(|e| e.name == "line" && self.has(e, "x1", "y1"));
+        let lines = lines.filter(|e| e.attribute("stroke") == colour);
+        let lines = lines.filter(|e| e.attribute("stroke-width") == width);
+        lines
+            .map(|e| ["x1", "y1", "x2", "y2"].map(|name| e.number(name)))
+            .collect()
+    }
+
+    /// Rectangles of a colour: left, top, right and bottom of each.
+    fn areas(&self, page: &[Element], colour: &str) -> Vec<[f64; 4]> {
+        let of_colour = |e: &&Element| e.name == "rect" && e.attribute("fill") == colour;
+        let areas = page
+            .iter()
+            .filter(of_colour)
+            .filter(|e| !e.attribute("x").is_empty());
+        let areas = areas.filter(|e| self.has(e, "x", "y"));
+        let area = |e: &Element| {
+            let [x, y, width, height] = ["x", "y", "width", "height"].map(|name| e.number(name));
+            [x, y, x + width, y + height]
+        };
+        areas.map(area).collect()
+    }
+}
+
+/// The same places, but for rounding.
+fn same(shown: &[[f64; 4]], expected: &[[f64; 4]]) {
+    assert_eq!(shown.len(), expected.len());
+    for (one, other) in shown.iter().flatten().zip(expected.iter().flatten()) {
+        assert!((one - other).abs() < 0.3, "{shown:?} for {expected:?}");
+    }
+}
+
+/// Market price, step prices, what is constrained on and the hedge stand where they should.
+#[test]
+fn plots() {
+    let (mut at_rate, mut at_no_rate, mut hedged) = (0, 0, 0);
+    for seed in 0..120 {
+        let day = small_day(seed);
+        let page = page(&day, 0);
+        let steps = (0..).map(|k| view(&day, 0, k));
+        let steps: Vec<View> = steps.take_while(|step| step.number == 0).collect();
+        let end = steps[steps.len() - 1].upper;
+        let (side, hedge) = (word(&day[64..], 2), word(&day[64..], 4));
+        for s in 0..SCHEDULES {
+            let Some(plot) = Plot::new(&page, s, end) else {
+                continue;
+            };
+            let market = word(&day, 4 + s);
+            let across = [plot.x(0), plot.y(market), plot.x(end), plot.y(market)];
+            same(&plot.lines(&page, "#c53030", "1.5"), &[across]);
+            let prices = steps.iter().map(|step| {
+                let y = plot.y(step.price[s]);
+                [plot.x(step.upper - step.width), y, plot.x(step.upper), y]
+            });
+            same(
+                &plot.lines(&page, "#1a202c", "2"),
+                &prices.collect::<Vec<_>>(),
+            );
+            let (mut green, mut violet) = (Vec::new(), Vec::new());
+            for step in steps.iter().filter(|step| step.constrained_on[s] > 0) {
+                let from = step.upper - step.width + step.msiq[s];
+                let (price, market) = (step.price[s], market);
+                let (above, below) = (price.max(market), price.min(market));
+                let right = plot.x(from + step.constrained_on[s]);
+                let area = [plot.x(from), plot.y(above), right, plot.y(below)];
+                let paid = if side == 0 {
+                    price > market
+                } else {
+                    price < market
+                };
+                if paid { &mut green } else { &mut violet }.push(area);
+            }
+            same(&plot.areas(&page, CONSTRAINED), &green);
+            same(&plot.areas(&page, "#b794f4"), &violet);
+            let behind = [plot.x(0), plot.top, plot.x(hedge), plot.bottom];
+            same(&plot.areas(&page, "#9ca3af"), &[behind]);
+            at_rate += green.len();
+            at_no_rate += violet.len();
+            hedged += usize::from(hedge > 0);
+        }
+    }
+    assert!(at_rate > 50 && at_no_rate > 50 && hedged > 50);
 }
 
 /// No text lies over another or leaves the page.
