@@ -33,11 +33,13 @@ pub struct Page {
 
 impl Page {
     pub fn rectangle(&mut self, area: Area, fill: &str, opacity: f64) {
-        let (x, y) = (area.left.min(area.right), area.top.min(area.bottom));
-        let (width, height) = (
-            (area.right - area.left).abs(),
-            (area.bottom - area.top).abs(),
-        );
+        // Ends are rounded first, so that areas side by side leave no gap.
+        let sorted = |a: f64, b: f64| {
+            let (a, b) = (tenths(a), tenths(b));
+            (a.min(b), (a - b).abs())
+        };
+        let (x, width) = sorted(area.left, area.right);
+        let (y, height) = sorted(area.top, area.bottom);
         self.put(&format!(
             r#"<rect x="{x:.1}" y="{y:.1}" width="{width:.1}" height="{height:.1}" fill="{fill}" fill-opacity="{opacity}" shape-rendering="crispEdges"/>"#
         ));
@@ -102,6 +104,10 @@ pub struct Pen {
     pub colour: &'static str,
     pub width: f64,
     pub dash: &'static str,
+}
+
+fn tenths(value: f64) -> f64 {
+    (value * 10.0).round() / 10.0
 }
 
 fn escaped(text: &str) -> String {
