@@ -15,6 +15,7 @@ use Rattle.payments.specs.declared.Money.{Money}
 use Rattle.payments.specs.Parts.{changeOn, takenBack}
 use Rattle.payments.specs.Amounts.{plusOf, minusOf}
 use Rattle.finals.specs.declared.SidePool.{SidePool}
+use Rattle.finals.specs.declared.Changes.{Changes}
 
 unfoldable pub sumIn : List ℕ → List ℕ → ℕ → ℕ
 sumIn a b s = at a s + at b s
@@ -42,6 +43,30 @@ stepPool x =
       differs = five (differsOn x);
     }
 
+-- the pool, and the money, of no step
+unfoldable pub noPool : SidePool
+noPool =
+    record {
+      plus = five (λ s. 0);
+      minus = five (λ s. 0);
+      rises = five (λ s. 0);
+      falls = five (λ s. 0);
+      differs = five (λ s. 0);
+    }
+
+unfoldable pub noMoney : Money
+noMoney = record { plus = five (λ s. 0); minus = five (λ s. 0) }
+
+-- a step's paid rises and falls, and its initial payments
+unfoldable pub changesOn : Step → Changes
+changesOn x =
+    record {
+      rises = five (changeOn rise x);
+      falls = five (changeOn fall x);
+      plus = five (plusOf (initial x));
+      minus = five (minusOf (initial x));
+    }
+
 unfoldable pub poolSum : SidePool → SidePool → SidePool
 poolSum a b =
     record {
@@ -59,6 +84,11 @@ pub record Addable (a b : SidePool) : Type 0 where
   pub rises : (s : ℕ) → sumIn (a .rises) (b .rises) s < 2 ^ 64
   pub falls : (s : ℕ) → sumIn (a .falls) (b .falls) s < 2 ^ 64
   pub differs : (s : ℕ) → sumIn (a .differs) (b .differs) s < 2 ^ 64
+
+-- two amounts of money whose sum fits
+pub record MoneyAddable (a b : Money) : Type 0 where
+  pub plus : (s : ℕ) → sumIn (a .plus) (b .plus) s < 2 ^ 64
+  pub minus : (s : ℕ) → sumIn (a .minus) (b .minus) s < 2 ^ 64
 
 -- T, B and whether some revised differs, in schedule s
 unfoldable pub poolAt : SidePool → ℕ → Pool
