@@ -1,24 +1,27 @@
 -- A step without a paid rise or fall: it adds nothing to its side's pool and is paid nothing.
-use Prim.Native.Nat.{ℕ, zero, suc, _<_}
+use Prim.Native.Nat.{ℕ, zero, suc, _+_, _-_, _≤_, _<_, min}
 use native.Mathlib.Nat.{zero-mul}
 use native.Mathlib.Omega.{arith}
-use mathlib.Core.Path.{_≡_, sym, _∙_, ap}
-use mathlib.Core.Bool.{Bool, true, cond}
+use mathlib.Core.Path.{_≡_, refl, sym, _∙_, ap, subst}
+use mathlib.Core.Bool.{Bool, true, false, cond, _||_, false≢true}
 use mathlib.Core.List.{List}
-use borrow.Author.Tests.{eqb-true, ne-eqb}
+use lib.Dec.{leb}
+use borrow.Author.Tests.{eqb-true, ne-eqb, leb-true, le-leb, lt-leb}
 use Rattle.rules.specs.Fold.{before, five, at, mostTo}
 use Rattle.rules.specs.Matching.{earlier, rise, fall}
-use Rattle.rules.specs.Payments.{onStep, rate, isPaid, initial}
+use Rattle.rules.specs.Quantities.{allocated, leastFrom, beyond, msiqFrom, msiq, constrained}
+use Rattle.rules.specs.Payments.{operatingOn, pricingOn, msiqOn, constrainedOn, onStep, rate, isPaid, initial}
 use Rattle.rules.specs.declared.Step.{Step}
 use Rattle.laws.specs.Folds.{at-five, most-term}
 use Rattle.laws.specs.Ints.{pl}
 use Rattle.numbers.specs.Fives.{five-same}
+use Rattle.quantities.specs.Bounds.{least-most, onStep-most}
 use Rattle.payments.specs.declared.Money.{Money}
 use Rattle.payments.specs.Parts.{changeOn, initial-plus, initial-minus}
 use Rattle.payments.specs.Amounts.{plusOf, minusOf, moneyOf}
 use Rattle.finals.specs.declared.SidePool.{SidePool}
 use Rattle.finals.specs.declared.Changes.{Changes}
-use Rattle.finals.specs.Amounts.{changesOn, stepPool, noPool, noMoney, poolSum, moneySum, poolAt, finalOn, allZero, Kept}
+use Rattle.finals.specs.Amounts.{changesOn, stepPool, noPool, noMoney, poolSum, moneySum, poolAt, finalOn, allZero, isUnconstrained, Kept}
 use Rattle.finals.specs.Parts.{rise-le, fall-le, off-initial, money-same}
 use Rattle.finals.proofs.Settling.{of-plus, of-minus, final-pays}
 use Rattle.finals.proofs.Kept.{kept-plus, kept-minus, kept-differs, final-kept}
@@ -26,11 +29,6 @@ use Rattle.finals.proofs.Kept.{kept-plus, kept-minus, kept-differs, fin
 pub record Idle (x : Step) : Type 0 where
   pub rises : (s : ℕ) → s < 5 → changeOn rise x s ≡ 0
   pub falls : (s : ℕ) → s < 5 → changeOn fall x s ≡ 0
-
--- a row of zeros
-pub all-wide : (v w : List ℕ) → w ≡ five (at v) → allZero w ≡ allZero v
-unfolding allZero mostTo
-all-wide v w e = ap allZero e
 
 zero-at : (v : List ℕ) → true ≡ allZero v → (s : ℕ) → s < 5 → at v s ≡ 0
 unfolding allZero
@@ -57,13 +55,67 @@ unfolding earlier before
 none-earlier c h zero l = omega arith
 none-earlier c h (suc s) l = h s (omega arith)
 
-pub idle-none : (x : Step) (c w : List ℕ) → c ≡ onStep x → w ≡ five (at c) → true ≡ allZero w → Idle x
-idle-none x c w ce e h =
-    let z : (s : ℕ) → s < 5 → at (onStep x) s ≡ 0 = λ s l. sym (ap (λ (r : List ℕ). at r s) ce) ∙ zero-at c (h ∙ all-wide c w e) s l in
+none-on : (x : Step) → ((s : ℕ) → s < 5 → at (onStep x) s ≡ 0) → Idle x
+none-on x z =
     record {
       rises = λ s l. omega (arith, rise-le x s, z s l);
       falls = λ s l. omega (arith, fall-le x s, none-earlier (onStep x) z s l);
     }
+
+-- past every operating total nothing is operated
+past-operating : (x : Step) → mostTo 5 (at (x .operating)) ≤ x .lower → (s : ℕ) → s < 5 → at (onStep x) s ≡ 0
+unfolding operatingOn allocated
+past-operating x h s l = omega (arith, onStep-most x s l, most-term 5 (at (x .operating)) s l)
+
+-- within every pricing total MSIQ is the step's width in each schedule
+least-later : (o : List ℕ) (i s m : ℕ) → i ≤ m → leastFrom o s m ≤ at o (i + s)
+unfolding leastFrom
+least-later o zero s m h = let e : 0 + s ≡ s = omega arith in rw e (least-most o s m)
+least-later o (suc i) s zero h = absurd (omega arith)
+least-later o (suc i) s (suc m) h =
+    let e : suc i + s ≡ i + suc s = omega arith in
+    let r = least-later o i (suc s) m (omega arith) in
+    rw e (omega arith)
+
+least-at : (o : List ℕ) (s : ℕ) → s < 5 → leastFrom o 0 4 ≤ at o s
+least-at o s l = let e : s + 0 ≡ s = omega arith in subst (λ (n : ℕ). leastFrom o 0 4 ≤ at o n) e (least-later o s 0 4 (omega arith))
+
+least-by : (t : Bool) (e n w : ℕ) → w ≤ e → w ≤ n → w ≤ cond t e (min e n)
+least-by true e n w h k = h
+least-by false e n w h k = omega arith
+
+msiq-least : (sd : ℕ) (p mp e : List ℕ) (w : ℕ) → ((i : ℕ) → i < 5 → w ≤ at e i) → (s m : ℕ) → s + m ≤ 4 → w ≤ msiqFrom sd p mp e s m
+unfolding msiqFrom
+msiq-least sd p mp e w h s zero l = h s (omega arith)
+msiq-least sd p mp e w h s (suc m) l =
+    least-by (beyond sd (at p s) (at mp s)) (at e s) (msiqFrom sd p mp e (suc s) m) w (h s (omega arith)) (msiq-least sd p mp e w h (suc s) m (omega arith))
+
+priced-on : (x : Step) → x .upper ≤ leastFrom (x .pricing) 0 4 → (s : ℕ) → s < 5 → x .upper - x .lower ≤ at (five (pricingOn x)) s
+unfolding pricingOn allocated
+priced-on x h s l = omega (arith, at-five (pricingOn x) 0 s l, least-at (x .pricing) s l)
+
+within-pricing : (x : Step) → x .upper ≤ leastFrom (x .pricing) 0 4 → (s : ℕ) → s < 5 → at (onStep x) s ≡ 0
+unfolding onStep constrainedOn constrained msiqOn msiq operatingOn allocated
+within-pricing x h s l =
+    let q = msiq-least (x .side) (x .price) (x .market) (five (pricingOn x)) (x .upper - x .lower) (priced-on x h) s (4 - s) (omega arith) in
+    omega (arith, at-five (constrainedOn x) 0 s l, at-five (operatingOn x) 0 s l, at-five (msiqOn x) 0 s l)
+
+pub within-is : (x : Step) (n : ℕ) → n ≡ leastFrom (x .pricing) 0 4 → x .upper ≤ n → true ≡ isUnconstrained x
+unfolding isUnconstrained
+within-is x n e h = let k : x .upper ≤ leastFrom (x .pricing) 0 4 = omega arith in rw (le-leb _ _ k)
+
+pub past-is : (x : Step) (n m : ℕ) → n ≡ leastFrom (x .pricing) 0 4 → n < x .upper → m ≡ mostTo 5 (at (x .operating)) → leb m (x .lower) ≡ isUnconstrained x
+unfolding isUnconstrained
+past-is x n m e h f = let k : leastFrom (x .pricing) 0 4 < x .upper = omega arith in rw (lt-leb _ _ k, f)
+
+pub idle-unconstrained : (x : Step) → true ≡ isUnconstrained x → Idle x
+unfolding isUnconstrained
+idle-unconstrained x h = go (leb (x .upper) (leastFrom (x .pricing) 0 4)) (leb (mostTo 5 (at (x .operating))) (x .lower)) refl refl h
+  where
+    go : (t u : Bool) → leb (x .upper) (leastFrom (x .pricing) 0 4) ≡ t → leb (mostTo 5 (at (x .operating))) (x .lower) ≡ u → true ≡ t || u → Idle x
+    go true u e f h = none-on x (within-pricing x (leb-true _ _ e))
+    go false true e f h = none-on x (past-operating x (leb-true _ _ f))
+    go false false e f h = absurd (false≢true (sym h))
 
 module _ (x : Step) (k : Idle x) where
   none-paid : (s : ℕ) → s < 5 → plusOf (initial x) s ≡ 0

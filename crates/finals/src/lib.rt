@@ -1,8 +1,10 @@
 // Document 01, "Payments": the pool of a side, and the final payments of one step, which are worked out from it.
 
 use matching::match_table;
+use numbers::greater;
 use numbers::greater64;
 use numbers::less64;
+use numbers::lesser;
 use numbers::lesser64;
 use numbers::share;
 use numbers::wide;
@@ -21,7 +23,8 @@ ghost use mathlib.Core.Path.{_≡_};
 ghost use mathlib.Core.Bool.{cond, not};
 ghost use Prim.Native.Nat.{ℕ, _+_, _-_, _<_, _^_};
 ghost use lib.Dec.{eqb};
-ghost use Rattle.rules.specs.Fold.{five, at};
+ghost use Rattle.rules.specs.Fold.{mostTo, five, at};
+ghost use Rattle.rules.specs.Quantities.{leastFrom};
 ghost use Rattle.rules.specs.Payments as paper;
 ghost use Rattle.payments.specs.Sizes.{Sized};
 ghost use Rattle.payments.specs.Parts.{takenBack};
@@ -40,6 +43,7 @@ ghost use Rattle.finals.specs.Amounts.{
   takenIn,
   finalOn,
   allZero,
+  isUnconstrained,
   Kept,
   Sharing,
   InPool,
@@ -97,12 +101,42 @@ fn none(v: [u64; 5]) -> bool
     greater64(c, v[4]) == 0
 }
 
+fn least(q: [u32; 5]) -> u32
+    ensures { λ r. ⌜ r ≡ leastFrom q 0 4 ⌝ }
+{
+    let d = lesser(q[3], q[4]);
+    let c = lesser(q[2], d);
+    let b = lesser(q[1], c);
+    lesser(q[0], b)
+}
+
+fn most(q: [u32; 5]) -> u32
+    ensures { λ r. ⌜ r ≡ mostTo 5 (at q) ⌝ }
+{
+    let a = greater(q[0], q[1]);
+    let b = greater(a, q[2]);
+    let c = greater(b, q[3]);
+    greater(c, q[4])
+}
+
 // Whether no schedule pays the step.
 fn unpaid(x: Step) -> bool
     ensures { λ r. ⌜ r ≡ allZero (x .paid) ⌝ }
 {
     let marks = x.paid;
-    none(widened(marks))
+    most(marks) == 0
+}
+
+// Whether the step lies within every pricing total or past every operating total: its C are all 0.
+fn unconstrained(x: Step) -> bool
+    ensures { λ r. ⌜ r ≡ isUnconstrained x ⌝ }
+{
+    let pricing = x.pricing;
+    let operating = x.operating;
+    if x.upper <= least(pricing) {
+        return true;
+    }
+    most(operating) <= x.lower
 }
 
 // A step's paid rises and falls, and what its initial payments pay and take back.
@@ -202,8 +236,8 @@ pub fn pool_add(a: SidePool, b: SidePool) -> SidePool
     }
 }
 
-// A pool with one step more. An unpaid step adds nothing, nor does one whose C are all 0; of the others most take nothing back, and
-// need no matches.
+// A pool with one step more. An unpaid step adds nothing, nor does an unconstrained one; most others take nothing back, and need no
+// matches.
 pub fn pool_with(p: SidePool, x: Step) -> SidePool
     requires { ⌜ (Sized x) × (Addable p (stepPool x)) × (poolSum p noPool ≡ p) ⌝ }
     ensures { λ r. ⌜ r ≡ poolSum p (stepPool x) ⌝ }
@@ -211,10 +245,10 @@ pub fn pool_with(p: SidePool, x: Step) -> SidePool
     if unpaid(x) {
         return p;
     }
-    let c = constrained_on(x);
-    if none(widened(c)) {
+    if unconstrained(x) {
         return p;
     }
+    let c = constrained_on(x);
     let v = changes_on(x, c, rates(x));
     let minus = v.minus;
     if none(minus) {
@@ -427,10 +461,10 @@ pub fn money_with(m: Money, x: Step, claw: u32, p: SidePool) -> Money
     if unpaid(x) {
         return m;
     }
-    let c = constrained_on(x);
-    if none(widened(c)) {
+    if unconstrained(x) {
         return m;
     }
+    let c = constrained_on(x);
     let rate = rates(x);
     let v = changes_on(x, c, rate);
     let plus = v.plus;

@@ -1,17 +1,19 @@
 -- `finals::unpaid` meets its contract.
-use mathlib.Core.Path.{_∙_}
+use Prim.Native.Nat.{ℕ}
+use mathlib.Core.Path.{ap}
 use borrow.Author.Needs.{needs}
-use Rattle.finals.proofs.Idle.{all-wide}
+use Rattle.finals.specs.Amounts.{allZero}
+use lib.Dec.{eqb}
 use Rattle.finals.proofs.unpaid.Statement.{statement}
 use Rattle.finals.proofs.unpaid.Tie as tie
 
 returns : tie.Need-returns
-returns c = c .none .ensures ∙ all-wide _ _ (c .before .widened .ensures)
+unfolding allZero
+returns c = ap (λ (n : ℕ). eqb n 0) (c .most .ensures)
 
 pub unpaid-spec : {M : Type 1} → statement M
 unpaid-spec =
     tie.close
     (tie.spec
-    (λ c κs. search needs)
     (λ c κs. search needs)
     returns)
