@@ -189,7 +189,7 @@ fn full_pool(x: Step, c: [u32; 5], v: Changes) -> SidePool
     let initial = v.minus;
     let rise = v.rises;
     let fall = v.falls;
-    let minus = revised_minus(x, match_table(c));
+    let minus = revised_minus(x, match_table(c), initial);
     SidePool {
         plus: plus,
         minus: minus,
@@ -387,7 +387,7 @@ fn final_taken(x: Step, claw: u32, p: SidePool, c: [u32; 5], rate: [u32; 5], v: 
     let fall = v.falls;
     let initial = v.minus;
     let table = match_table(c);
-    let revised = revised_minus(x, table);
+    let revised = revised_minus(x, table, initial);
     let modified = modified_minus(x, table, rate, initial);
     final_minus(
         claw,
@@ -413,7 +413,7 @@ fn full_money(x: Step, claw: u32, p: SidePool) -> Money
     let fall = only_paid(paid, falls(c));
     let table = match_table(c);
     let initial = products(fall, rate);
-    let revised = revised_minus(x, table);
+    let revised = revised_minus(x, table, initial);
     let modified = modified_minus(x, table, rate, initial);
     Money {
         plus: products(only_paid(paid, rises(c)), rate),

@@ -8,7 +8,7 @@ use Rattle.finals.proofs.final_taken.Tie as tie
 
 revised-minus-requires : tie.Need-revised-minus-requires
 unfolding matchRow
-revised-minus-requires c κs = (c .before .before .before .before .pre .0, rw (c .match-table .ensures, c .before .before .before .before .pre .2))
+revised-minus-requires c κs = (c .before .before .before .before .pre .0, rw (c .match-table .ensures, c .before .before .before .before .pre .2), of-minus (c .before .before .before .before .args .x) _ (c .before .before .before .before .pre .4))
 
 modified-minus-requires : tie.Need-modified-minus-requires
 unfolding matchRow

@@ -12,7 +12,7 @@ use Rattle.finals.proofs.full_pool.Tie as tie
 
 revised-minus-requires : tie.Need-revised-minus-requires
 unfolding matchRow
-revised-minus-requires c κs = (c .before .before .before .before .before .pre .0, rw (c .match-table .ensures, c .before .before .before .before .before .pre .1))
+revised-minus-requires c κs = (c .before .before .before .before .before .pre .0, rw (c .match-table .ensures, c .before .before .before .before .before .pre .1), of-minus (c .before .before .before .before .before .args .x) _ (c .before .before .before .before .before .pre .2))
 
 returns : tie.Need-returns
 unfolding stepPool
