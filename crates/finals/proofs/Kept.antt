@@ -26,11 +26,15 @@ use Rattle.finals.proofs.Settling.{no-taking, final-pays}
 next : (k : ℕ) {m n : ℕ} → m ≡ n → max m k ≡ max n k
 next k e = ap (λ (m : ℕ). max m k) e
 
-pub none-is : (v : List ℕ) (a b c d : ℕ) → a ≡ max (at v 0) (at v 1) → b ≡ max a (at v 2) → c ≡ max b (at v 3) → d ≡ max c (at v 4) → eqb d 0 ≡ allZero v
-unfolding allZero mostTo
-none-is v a b c d ae be ce de =
+pub most-is : (v : List ℕ) (a b c d : ℕ) → a ≡ max (at v 0) (at v 1) → b ≡ max a (at v 2) → c ≡ max b (at v 3) → d ≡ max c (at v 4) → d ≡ mostTo 5 (at v)
+unfolding mostTo
+most-is v a b c d ae be ce de =
     let z : at v 0 ≡ max 0 (at v 0) = omega arith in
-    ap (λ (n : ℕ). eqb n 0) (de ∙ next (at v 4) (ce ∙ next (at v 3) (be ∙ next (at v 2) (ae ∙ next (at v 1) z))))
+    de ∙ next (at v 4) (ce ∙ next (at v 3) (be ∙ next (at v 2) (ae ∙ next (at v 1) z)))
+
+pub none-is : (v : List ℕ) (a b c d : ℕ) → a ≡ max (at v 0) (at v 1) → b ≡ max a (at v 2) → c ≡ max b (at v 3) → d ≡ max c (at v 4) → eqb d 0 ≡ allZero v
+unfolding allZero
+none-is v a b c d ae be ce de = ap (λ (n : ℕ). eqb n 0) (most-is v a b c d ae be ce de)
 
 pub kept-row : (x : Step) (v : List ℕ) → v ≡ five (minusOf (initial x)) → true ≡ allZero v → Kept x
 unfolding allZero minusOf

@@ -9,7 +9,7 @@ use lib.Dec.{eqb, ltb, eqb·suc-suc}
 use lib.IntN.{ℤ, pos, negsuc}
 use borrow.Author.Tests.{eq-eqb, ne-eqb, lt-ltb}
 use Rattle.rules.specs.Fold.{five, at, eqbZ}
-use Rattle.rules.specs.Matching.{fall}
+use Rattle.rules.specs.Matching.{rise, fall}
 use Rattle.rules.specs.Payments.{onStep, bit, rate, isPaid, initial, revised, modified, finalPayment}
 use Rattle.rules.specs.declared.Step.{Step}
 use Rattle.laws.specs.Folds.{at-five}
@@ -20,7 +20,26 @@ use Rattle.payments.specs.Parts.{changeOn, initial-minus, takenBack, sharedTota
 use Rattle.payments.specs.Kinds.{initial-within, fall-within}
 use Rattle.payments.specs.Amounts.{plusOf, minusOf}
 use Rattle.finals.specs.declared.SidePool.{SidePool}
-use Rattle.finals.specs.Amounts.{differIn, differsOn, poolAt, totalIn, baseIn, takenIn, Sharing, InPool, finalOn}
+use Rattle.finals.specs.declared.Changes.{Changes}
+use Rattle.finals.specs.Amounts.{changesOn, differIn, differsOn, poolAt, totalIn, baseIn, takenIn, Sharing, InPool, finalOn}
+
+-- the rows of a step's changes
+module _ (x : Step) (v : Changes) (e : v ≡ changesOn x) where
+  pub of-rises : v .rises ≡ five (changeOn rise x)
+  unfolding changesOn
+  of-rises = ap (λ (z : Changes). z .rises) e
+
+  pub of-falls : v .falls ≡ five (changeOn fall x)
+  unfolding changesOn
+  of-falls = ap (λ (z : Changes). z .falls) e
+
+  pub of-plus : v .plus ≡ five (plusOf (initial x))
+  unfolding changesOn
+  of-plus = ap (λ (z : Changes). z .plus) e
+
+  pub of-minus : v .minus ≡ five (minusOf (initial x))
+  unfolding changesOn
+  of-minus = ap (λ (z : Changes). z .minus) e
 
 -- where revised differs from initial
 differs-by : (a b : ℤ) → pl a ≡ pl b → eqb (mi a) (mi b) ≡ eqbZ a b

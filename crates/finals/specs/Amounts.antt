@@ -1,13 +1,14 @@
 -- Rows of five as the code has them: sums of two, pools of a side, and what the final payments take back.
 use Prim.Native.Nat.{ℕ, _+_, _*_, _-_, _≤_, _<_, _^_, max}
-use mathlib.Core.Bool.{Bool, cond, not}
+use mathlib.Core.Bool.{Bool, cond, not, _||_}
 use mathlib.Core.List.{List}
 use mathlib.Core.Path.{_≡_}
-use lib.Dec.{eqb, ltb}
+use lib.Dec.{eqb, ltb, leb}
 use lib.IntN.{ℤ, subℕ}
 use Rattle.rules.specs.Fold.{mostTo, five, at, eqbZ}
 use Rattle.laws.specs.Ints.{mi}
 use Rattle.rules.specs.Layout.{quantityMost, priceMost, mostLines}
+use Rattle.rules.specs.Quantities.{leastFrom}
 use Rattle.rules.specs.Matching.{rise, fall}
 use Rattle.rules.specs.Payments.{Pool, bit, initial, revised, finalPayment}
 use Rattle.rules.specs.declared.Step.{Step}
@@ -15,6 +16,7 @@ use Rattle.payments.specs.declared.Money.{Money}
 use Rattle.payments.specs.Parts.{changeOn, takenBack}
 use Rattle.payments.specs.Amounts.{plusOf, minusOf}
 use Rattle.finals.specs.declared.SidePool.{SidePool}
+use Rattle.finals.specs.declared.Changes.{Changes}
 
 unfoldable pub sumIn : List ℕ → List ℕ → ℕ → ℕ
 sumIn a b s = at a s + at b s
@@ -42,6 +44,30 @@ stepPool x =
       differs = five (differsOn x);
     }
 
+-- the pool, and the money, of no step
+unfoldable pub noPool : SidePool
+noPool =
+    record {
+      plus = five (λ s. 0);
+      minus = five (λ s. 0);
+      rises = five (λ s. 0);
+      falls = five (λ s. 0);
+      differs = five (λ s. 0);
+    }
+
+unfoldable pub noMoney : Money
+noMoney = record { plus = five (λ s. 0); minus = five (λ s. 0) }
+
+-- a step's paid rises and falls, and its initial payments
+unfoldable pub changesOn : Step → Changes
+changesOn x =
+    record {
+      rises = five (changeOn rise x);
+      falls = five (changeOn fall x);
+      plus = five (plusOf (initial x));
+      minus = five (minusOf (initial x));
+    }
+
 unfoldable pub poolSum : SidePool → SidePool → SidePool
 poolSum a b =
     record {
@@ -59,6 +85,11 @@ pub record Addable (a b : SidePool) : Type 0 where
   pub rises : (s : ℕ) → sumIn (a .rises) (b .rises) s < 2 ^ 64
   pub falls : (s : ℕ) → sumIn (a .falls) (b .falls) s < 2 ^ 64
   pub differs : (s : ℕ) → sumIn (a .differs) (b .differs) s < 2 ^ 64
+
+-- two amounts of money whose sum fits
+pub record MoneyAddable (a b : Money) : Type 0 where
+  pub plus : (s : ℕ) → sumIn (a .plus) (b .plus) s < 2 ^ 64
+  pub minus : (s : ℕ) → sumIn (a .minus) (b .minus) s < 2 ^ 64
 
 -- T, B and whether some revised differs, in schedule s
 unfoldable pub poolAt : SidePool → ℕ → Pool
@@ -103,6 +134,10 @@ pub record InPool (x : Step) (p : SidePool) : Type 0 where
 -- whether a row of five is 0 throughout
 unfoldable pub allZero : List ℕ → Bool
 allZero v = eqb (mostTo 5 (at v)) 0
+
+-- whether a step lies within every pricing total or past every operating total
+unfoldable pub isUnconstrained : Step → Bool
+isUnconstrained x = leb (x .upper) (leastFrom (x .pricing) 0 4) || leb (mostTo 5 (at (x .operating))) (x .lower)
 
 -- a step whose initial payments take nothing back
 pub record Kept (x : Step) : Type 0 where

@@ -1,14 +1,15 @@
 // Document 01, "Payments": the pool of a side, and the final payments of one step, which are worked out from it.
 
 use matching::match_table;
+use numbers::greater;
 use numbers::greater64;
 use numbers::less64;
+use numbers::lesser;
 use numbers::lesser64;
 use numbers::share;
 use numbers::wide;
 use payments::Money;
 use payments::falls;
-use payments::initial_money;
 use payments::modified_minus;
 use payments::only_paid;
 use payments::products;
@@ -22,26 +23,32 @@ ghost use mathlib.Core.Path.{_≡_};
 ghost use mathlib.Core.Bool.{cond, not};
 ghost use Prim.Native.Nat.{ℕ, _+_, _-_, _<_, _^_};
 ghost use lib.Dec.{eqb};
-ghost use Rattle.rules.specs.Fold.{five, at};
+ghost use Rattle.rules.specs.Fold.{mostTo, five, at};
+ghost use Rattle.rules.specs.Quantities.{leastFrom};
 ghost use Rattle.rules.specs.Payments as paper;
 ghost use Rattle.payments.specs.Sizes.{Sized};
 ghost use Rattle.payments.specs.Parts.{takenBack};
-ghost use Rattle.payments.specs.Amounts.{moneyOf, plusOf};
+ghost use Rattle.payments.specs.Amounts.{moneyOf, minusOf};
 ghost use Rattle.finals.specs.Amounts.{
   sumIn,
   differIn,
   moneySum,
   stepPool,
+  noPool,
+  noMoney,
+  changesOn,
   poolSum,
   totalIn,
   baseIn,
   takenIn,
   finalOn,
   allZero,
+  isUnconstrained,
   Kept,
   Sharing,
   InPool,
   Addable,
+  MoneyAddable,
 };
 
 // The pool of one side, by schedule.
@@ -94,54 +101,102 @@ fn none(v: [u64; 5]) -> bool
     greater64(c, v[4]) == 0
 }
 
+fn least(q: [u32; 5]) -> u32
+    ensures { λ r. ⌜ r ≡ leastFrom q 0 4 ⌝ }
+{
+    let d = lesser(q[3], q[4]);
+    let c = lesser(q[2], d);
+    let b = lesser(q[1], c);
+    lesser(q[0], b)
+}
+
+fn most(q: [u32; 5]) -> u32
+    ensures { λ r. ⌜ r ≡ mostTo 5 (at q) ⌝ }
+{
+    let a = greater(q[0], q[1]);
+    let b = greater(a, q[2]);
+    let c = greater(b, q[3]);
+    greater(c, q[4])
+}
+
+// Whether no schedule pays the step.
+fn unpaid(x: Step) -> bool
+    ensures { λ r. ⌜ r ≡ allZero (x .paid) ⌝ }
+{
+    let marks = x.paid;
+    most(marks) == 0
+}
+
+// Whether the step lies within every pricing total or past every operating total: its C are all 0.
+fn unconstrained(x: Step) -> bool
+    ensures { λ r. ⌜ r ≡ isUnconstrained x ⌝ }
+{
+    let pricing = x.pricing;
+    let operating = x.operating;
+    if x.upper <= least(pricing) {
+        return true;
+    }
+    most(operating) <= x.lower
+}
+
+// A step's paid rises and falls, and what its initial payments pay and take back.
+pub struct Changes {
+    pub rises: [u32; 5],
+    pub falls: [u32; 5],
+    pub plus: [u64; 5],
+    pub minus: [u64; 5],
+}
+
+// From C and R.
+fn changes_on(x: Step, c: [u32; 5], rate: [u32; 5]) -> Changes
+    requires { ⌜ (c ≡ paper.onStep x) × (rate ≡ five (paper.rate x)) ⌝ }
+    ensures { λ r. ⌜ r ≡ changesOn x ⌝ }
+{
+    let paid = x.paid;
+    let rise = only_paid(paid, rises(c));
+    let fall = only_paid(paid, falls(c));
+    Changes {
+        rises: rise,
+        falls: fall,
+        plus: products(rise, rate),
+        minus: products(fall, rate),
+    }
+}
+
 // What a step adds to its side's pool where no initial payment takes something back: its revised payments are the initial ones.
-fn kept_pool(x: Step, plus: [u64; 5]) -> SidePool
-    requires { ⌜ (plus ≡ five (plusOf (paper.initial x))) × (Kept x) ⌝ }
+fn kept_pool(x: Step, v: Changes) -> SidePool
+    requires { ⌜ (v ≡ changesOn x) × (Kept x) ⌝ }
     ensures { λ r. ⌜ r ≡ stepPool x ⌝ }
 {
-    let c = constrained_on(x);
-    let paid = x.paid;
+    let plus = v.plus;
+    let rise = v.rises;
+    let fall = v.falls;
     SidePool {
         plus: plus,
         minus: [0; 5],
-        rises: widened(only_paid(paid, rises(c))),
-        falls: widened(only_paid(paid, falls(c))),
+        rises: widened(rise),
+        falls: widened(fall),
         differs: [0; 5],
     }
 }
 
 // What any step adds to its side's pool.
-fn full_pool(x: Step) -> SidePool
-    requires { ⌜ Sized x ⌝ }
+fn full_pool(x: Step, c: [u32; 5], v: Changes) -> SidePool
+    requires { ⌜ (Sized x) × (c ≡ paper.onStep x) × (v ≡ changesOn x) ⌝ }
     ensures { λ r. ⌜ r ≡ stepPool x ⌝ }
 {
-    let c = constrained_on(x);
-    let paid = x.paid;
-    let rate = rates(x);
-    let rise = only_paid(paid, rises(c));
-    let fall = only_paid(paid, falls(c));
-    let minus = revised_minus(x, match_table(c));
+    let plus = v.plus;
+    let initial = v.minus;
+    let rise = v.rises;
+    let fall = v.falls;
+    let minus = revised_minus(x, match_table(c), initial);
     SidePool {
-        plus: products(rise, rate),
+        plus: plus,
         minus: minus,
         rises: widened(rise),
         falls: widened(fall),
-        differs: differing(minus, products(fall, rate)),
+        differs: differing(minus, initial),
     }
-}
-
-// What one step adds to its side's pool. Most take nothing back, and need no matches.
-pub fn step_pool(x: Step) -> SidePool
-    requires { ⌜ Sized x ⌝ }
-    ensures { λ r. ⌜ r ≡ stepPool x ⌝ }
-{
-    let initial = initial_money(x);
-    let plus = initial.plus;
-    let minus = initial.minus;
-    if none(minus) {
-        return kept_pool(x, plus);
-    }
-    full_pool(x)
 }
 
 fn add_rows(a: [u64; 5], b: [u64; 5]) -> [u64; 5]
@@ -179,6 +234,27 @@ pub fn pool_add(a: SidePool, b: SidePool) -> SidePool
         falls: add_rows(falls, more_falls),
         differs: add_rows(differs, more_differs),
     }
+}
+
+// A pool with one step more. An unpaid step adds nothing, nor does an unconstrained one; most others take nothing back, and need no
+// matches.
+pub fn pool_with(p: SidePool, x: Step) -> SidePool
+    requires { ⌜ (Sized x) × (Addable p (stepPool x)) × (poolSum p noPool ≡ p) ⌝ }
+    ensures { λ r. ⌜ r ≡ poolSum p (stepPool x) ⌝ }
+{
+    if unpaid(x) {
+        return p;
+    }
+    if unconstrained(x) {
+        return p;
+    }
+    let c = constrained_on(x);
+    let v = changes_on(x, c, rates(x));
+    let minus = v.minus;
+    if none(minus) {
+        return pool_add(p, kept_pool(x, v));
+    }
+    pool_add(p, full_pool(x, c, v))
 }
 
 // T of a schedule, or 0 where it isn't above 0 or nothing differs.
@@ -302,7 +378,30 @@ fn final_minus(
     ]
 }
 
-// The final payments of any step, from the clawback switch and its side's pool.
+// What the final payments take back, from C, R and the step's changes.
+fn final_taken(x: Step, claw: u32, p: SidePool, c: [u32; 5], rate: [u32; 5], v: Changes) -> [u64; 5]
+    requires { ⌜ (Sized x) × (InPool x p) × (c ≡ paper.onStep x) × (rate ≡ five (paper.rate x)) × (v ≡ changesOn x) ⌝ }
+    ensures { λ r. ⌜ r ≡ five (minusOf (finalOn x claw p)) ⌝ }
+{
+    let flag = x.flag;
+    let fall = v.falls;
+    let initial = v.minus;
+    let table = match_table(c);
+    let revised = revised_minus(x, table, initial);
+    let modified = modified_minus(x, table, rate, initial);
+    final_minus(
+        claw,
+        flag,
+        initial,
+        revised,
+        modified,
+        fall,
+        shared_totals(p),
+        bases(p),
+    )
+}
+
+// The final payments of one step, from the clawback switch and its side's pool.
 fn full_money(x: Step, claw: u32, p: SidePool) -> Money
     requires { ⌜ (Sized x) × (InPool x p) ⌝ }
     ensures { λ r. ⌜ r ≡ moneyOf (finalOn x claw p) ⌝ }
@@ -314,7 +413,7 @@ fn full_money(x: Step, claw: u32, p: SidePool) -> Money
     let fall = only_paid(paid, falls(c));
     let table = match_table(c);
     let initial = products(fall, rate);
-    let revised = revised_minus(x, table);
+    let revised = revised_minus(x, table, initial);
     let modified = modified_minus(x, table, rate, initial);
     Money {
         plus: products(only_paid(paid, rises(c)), rate),
@@ -331,30 +430,17 @@ fn full_money(x: Step, claw: u32, p: SidePool) -> Money
     }
 }
 
-// The same. Most steps take nothing back: their final payments are the initial ones.
-pub fn final_money(x: Step, claw: u32, p: SidePool) -> Money
-    requires { ⌜ (Sized x) × (InPool x p) ⌝ }
-    ensures { λ r. ⌜ r ≡ moneyOf (finalOn x claw p) ⌝ }
-{
-    let initial = initial_money(x);
-    let minus = initial.minus;
-    if none(minus) {
-        return initial;
-    }
-    full_money(x, claw, p)
-}
-
 // The final payments, signed.
 pub fn finals(x: Step, claw: u32, p: SidePool) -> [i64; 5]
     requires { ⌜ (Sized x) × (InPool x p) ⌝ }
     ensures { λ r. ⌜ r ≡ five (finalOn x claw p) ⌝ }
 {
-    signed_money(final_money(x, claw, p))
+    signed_money(full_money(x, claw, p))
 }
 
 // The sum of two amounts of money.
 pub fn money_add(a: Money, b: Money) -> Money
-    requires { ⌜ ((s : ℕ) → (sumIn (a .plus) (b .plus) s < 2 ^ 64) × (sumIn (a .minus) (b .minus) s < 2 ^ 64)) ⌝ }
+    requires { ⌜ MoneyAddable a b ⌝ }
     ensures { λ r. ⌜ r ≡ moneySum a b ⌝ }
 {
     let plus = a.plus;
@@ -365,4 +451,35 @@ pub fn money_add(a: Money, b: Money) -> Money
         plus: add_rows(plus, more_plus),
         minus: add_rows(minus, more_minus),
     }
+}
+
+// Money with the final payments of one step more. The pool is read only where clawback is on and something is taken back.
+pub fn money_with(m: Money, x: Step, claw: u32, p: SidePool) -> Money
+    requires { ⌜ (Sized x) × ((claw ≡ 0 → ⊥) → InPool x p) × (MoneyAddable m (moneyOf (finalOn x claw p))) × (moneySum m noMoney ≡ m) ⌝ }
+    ensures { λ r. ⌜ r ≡ moneySum m (moneyOf (finalOn x claw p)) ⌝ }
+{
+    if unpaid(x) {
+        return m;
+    }
+    if unconstrained(x) {
+        return m;
+    }
+    let c = constrained_on(x);
+    let rate = rates(x);
+    let v = changes_on(x, c, rate);
+    let plus = v.plus;
+    let minus = v.minus;
+    if claw == 0 {
+        return money_add(m, Money { plus, minus });
+    }
+    if none(minus) {
+        return money_add(m, Money { plus, minus });
+    }
+    money_add(
+        m,
+        Money {
+            plus,
+            minus: final_taken(x, claw, p, c, rate, v),
+        },
+    )
 }

@@ -18,7 +18,7 @@ use Rattle.numbers.specs.Fives.{five-same}
 use Rattle.matching.specs.Ledgers.{matchRow}
 use Rattle.matching.specs.Balance.{matched-out}
 use Rattle.payments.specs.Sizes.{Sized, rate-most, revisedRate-most, fall-most, givenBack-most}
-use Rattle.payments.specs.Parts.{changeOn, initial-plus, initial-minus, revised-plus, revised-minus, modified-plus, modified-minus}
+use Rattle.payments.specs.Parts.{changeOn, initial-plus, initial-minus, revised-plus, revised-taken, modified-plus, modified-minus}
 use Rattle.payments.specs.Kinds.{revised-first, modified-first}
 use Rattle.payments.specs.Amounts.{onlyPaid, productIn, givenAt, plusOf, minusOf}
 
@@ -55,13 +55,14 @@ pub revised-rate-most : (x : Step) (s : ℕ) → Sized x → (r : ℕ) → revis
 revised-rate-most x s z r = omega (arith, revisedRate-most x s r, rate-most x s z)
 
 -- an entry of what revised and modified take back
-pub revised-entry : (x : Step) (s : ℕ) → s < 5 → {m r : List ℕ} {g : ℕ} → m ≡ matchRow (onStep x) s → r ≡ five (revisedRate x s) → g ≡ cond (eqb (at (x .paid) s) 1) (givenAt m r) 0 → g ≡ minusOf (revised x) s
-unfolding minusOf isPaid
-revised-entry x s h p q e = e ∙ rw (given-is x s (revisedRate x s) h p q) (sym (revised-minus x s))
+module _ (x : Step) (s : ℕ) (h : s < 5) {m r : List ℕ} {i g : ℕ} where
+  pub revised-entry : m ≡ matchRow (onStep x) s → r ≡ five (revisedRate x s) → i ≡ minusOf (initial x) s → g ≡ cond (eqb i 0) 0 (givenAt m r) → g ≡ minusOf (revised x) s
+  unfolding minusOf
+  revised-entry p q w e = e ∙ rw (given-is x s (revisedRate x s) h p q, w) (sym (revised-taken x s))
 
-pub modified-entry : (x : Step) (s : ℕ) → s < 5 → {m r : List ℕ} {i g : ℕ} → m ≡ matchRow (onStep x) s → r ≡ five (rate x) → i ≡ minusOf (initial x) s → g ≡ cond (eqb i 0) 0 (givenAt m r) → g ≡ minusOf (modified x) s
-unfolding minusOf
-modified-entry x s h p q w e = e ∙ rw (given-is x s (rate x) h p q, w) (sym (modified-minus x s))
+  pub modified-entry : m ≡ matchRow (onStep x) s → r ≡ five (rate x) → i ≡ minusOf (initial x) s → g ≡ cond (eqb i 0) 0 (givenAt m r) → g ≡ minusOf (modified x) s
+  unfolding minusOf
+  modified-entry p q w e = e ∙ rw (given-is x s (rate x) h p q, w) (sym (modified-minus x s))
 
 pub revised-entry-first : (x : Step) → 0 ≡ minusOf (revised x) 0
 unfolding minusOf

@@ -66,6 +66,10 @@ pub modified-minus : (x : Step) (s : ℕ) → mi (modified x s) ≡ cond (eqb (m
 unfolding modified
 modified-minus x s = or-minus x s (rate x)
 
+pub revised-taken : (x : Step) (s : ℕ) → mi (revised x s) ≡ cond (eqb (mi (initial x s)) 0) 0 (givenBack x s (revisedRate x s))
+unfolding revised
+revised-taken x s = or-minus x s (revisedRate x s)
+
 -- revised: no test of the initial is needed, since the revised rates are at most the rate
 revised-by : (t : Bool) (i d g n : ℕ) → i ≡ cond t d 0 * n → g ≤ d * n → cond (eqb i 0) 0 g ≡ cond t g 0
 revised-by true zero d g n p h = omega arith

@@ -151,47 +151,32 @@ fn given_back(m: [u32; 5], rate: [u32; 5]) -> u64
         + product(m[3], rate[3])
 }
 
-fn given_if_paid(paid: u32, m: [u32; 5], rate: [u32; 5]) -> u64
-    requires { ⌜ givenAt m rate < 2 ^ 64 ⌝ }
-    ensures { λ r. ⌜ r ≡ cond (eqb paid 1) (givenAt m rate) 0 ⌝ }
+// What the revised payment of a schedule takes back, where its own price and market price are `own` and `market`, from its matches and
+// what its initial payment takes back.
+fn revised_back(initial: u64, side: u32, price: [u32; 5], own: u32, market: u32, m: [u32; 5]) -> u64
+    requires { ⌜ givenAt m (five (revisedAt side price own market)) < 2 ^ 64 ⌝ }
+    ensures { λ r. ⌜ r ≡ cond (eqb initial 0) 0 (givenAt m (five (revisedAt side price own market))) ⌝ }
 {
-    if paid == 1 {
-        return given_back(m, rate);
+    if initial == 0 {
+        return 0;
     }
-    0
+    given_back(m, revised_rates(side, price, own, market))
 }
 
-// What the revised payments take back, from the step's match table.
-pub fn revised_minus(x: Step, t: [[u32; 5]; 5]) -> [u64; 5]
-    requires { ⌜ (Sized x) × (t ≡ five (matchRow (paper.onStep x))) ⌝ }
+// What the revised payments take back, from the match table and what the initial payments take back.
+pub fn revised_minus(x: Step, t: [[u32; 5]; 5], initial: [u64; 5]) -> [u64; 5]
+    requires { ⌜ (Sized x) × (t ≡ five (matchRow (paper.onStep x))) × (initial ≡ five (minusOf (paper.initial x))) ⌝ }
     ensures { λ r. ⌜ r ≡ five (minusOf (paper.revised x)) ⌝ }
 {
     let side = x.side;
     let price = x.price;
     let market = x.market;
-    let paid = x.paid;
     [
         0,
-        given_if_paid(
-            paid[1],
-            t[1],
-            revised_rates(side, price, price[1], market[1]),
-        ),
-        given_if_paid(
-            paid[2],
-            t[2],
-            revised_rates(side, price, price[2], market[2]),
-        ),
-        given_if_paid(
-            paid[3],
-            t[3],
-            revised_rates(side, price, price[3], market[3]),
-        ),
-        given_if_paid(
-            paid[4],
-            t[4],
-            revised_rates(side, price, price[4], market[4]),
-        ),
+        revised_back(initial[1], side, price, price[1], market[1], t[1]),
+        revised_back(initial[2], side, price, price[2], market[2], t[2]),
+        revised_back(initial[3], side, price, price[3], market[3], t[3]),
+        revised_back(initial[4], side, price, price[4], market[4], t[4]),
     ]
 }
 
@@ -237,9 +222,10 @@ pub fn revised_money(x: Step) -> Money
 {
     let initial = initial_money(x);
     let plus = initial.plus;
+    let minus = initial.minus;
     Money {
         plus: plus,
-        minus: revised_minus(x, match_table(constrained_on(x))),
+        minus: revised_minus(x, match_table(constrained_on(x)), minus),
     }
 }
 

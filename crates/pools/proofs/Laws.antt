@@ -1,5 +1,5 @@
 -- Step j of line k as the loops over a line's steps put it together.
-use Prim.Native.Nat.{ℕ, _+_, _*_, _≤_, _<_, _^_}
+use Prim.Native.Nat.{ℕ, _+_, _*_, _≤_, _<_}
 use native.Mathlib.Omega.{arith}
 use native.Mathlib.Numerals.{add-one}
 use mathlib.Core.Path.{_≡_, sym, _∙_, ap, subst}
@@ -13,7 +13,7 @@ use borrow.Author.Tests.{eq-eqb, ne-eqb}
 use Rattle.rules.specs.Steps.{stepCount, upperEnd, lowerEnd}
 use Rattle.rules.specs.Cutting.{cutOf}
 use Rattle.rules.specs.Refusals.{lineFault}
-use Rattle.rules.specs.Payments.{stepOf, initial, ofSide}
+use Rattle.rules.specs.Payments.{stepOf, ofSide}
 use Rattle.rules.specs.declared.Step.{Step}
 use Rattle.rules.specs.declared.Cut.{Cut}
 use Rattle.laws.specs.Accepted.{AcceptedDay, accepted-line, accepted-line-at}
@@ -22,7 +22,7 @@ use Rattle.cutter.specs.Sweep.{Line}
 use Rattle.cutter.specs.Ends.{count-most}
 use Rattle.payments.specs.Sizes.{Sized}
 use Rattle.payments.specs.Amounts.{moneyOf}
-use Rattle.finals.specs.Amounts.{stepPool, poolSum, Addable, sumIn, finalOn, moneySum, poolAt}
+use Rattle.finals.specs.Amounts.{stepPool, noPool, poolSum, Addable, MoneyAddable, finalOn, moneySum}
 use Rattle.payments.specs.declared.Money.{Money}
 use Rattle.finals.specs.declared.SidePool.{SidePool}
 use Rattle.inputs.specs.declared.Market.{Market}
@@ -32,7 +32,7 @@ use Rattle.inputs.specs.Steps.{step-is, end-is}
 use Rattle.inputs.specs.Paid.{sized}
 use Rattle.pools.specs.Sums.{poolTo, pool-more, moneyTo, money-more}
 use Rattle.pools.specs.Sides.{stepPoolAt, linePool, sidePart, sidePool}
-use Rattle.pools.specs.Lines.{PoolFor, Payable, payable, stepMoney, step-money-is, money-adds, money-same, noPool, no-pool, off-initial}
+use Rattle.pools.specs.Lines.{PoolFor, Payable, payable, stepMoney, step-money-is, money-adds, no-pool}
 use Rattle.pools.specs.Sizes.{steps-addable, lines-addable}
 
 -- line k of an accepted day
@@ -91,38 +91,27 @@ module _ (d : List ℕ) (a : AcceptedDay d) (k : ℕ) (l : k < lineCount d) wher
       next-lower up ue = rw add-one (ue ∙ end-there)
 
       -- the pool with this step
-      pub pool-addable : (q y : SidePool) (x : Step) → x ≡ stepOf d k j → q ≡ poolTo j (stepPoolAt d k) → y ≡ stepPool x → Addable q y
+      pub pool-addable : (q : SidePool) (x : Step) → x ≡ stepOf d k j → q ≡ poolTo j (stepPoolAt d k) → Addable q (stepPool x)
       unfolding stepPoolAt
-      pool-addable q y x xe qe ye =
-          let ye′ : y ≡ stepPool (stepOf d k j) = ye ∙ ap stepPool xe in
-          rw (qe, ye′) (steps-addable d a k j l below)
+      pool-addable q x xe qe = rw (qe, xe) (steps-addable d a k j l below)
 
-      pub pool-next : (q y r : SidePool) (x : Step) → x ≡ stepOf d k j → q ≡ poolTo j (stepPoolAt d k) → y ≡ stepPool x → r ≡ poolSum q y → r ≡ poolTo (j + 1) (stepPoolAt d k)
+      pub pool-next : (q r : SidePool) (x : Step) → x ≡ stepOf d k j → q ≡ poolTo j (stepPoolAt d k) → r ≡ poolSum q (stepPool x) → r ≡ poolTo (j + 1) (stepPoolAt d k)
       unfolding stepPoolAt
-      pool-next q y r x xe qe ye re =
-          let ye′ : y ≡ stepPool (stepOf d k j) = ye ∙ ap stepPool xe in
-          re ∙ rw (qe, ye′) (sym (pool-more j (stepPoolAt d k)))
+      pool-next q r x xe qe re = re ∙ rw (qe, xe) (sym (pool-more j (stepPoolAt d k)))
 
       -- the money with this step
       module _ (p : SidePool) (g : PoolFor d (side (lineAt d k)) p) (cl : ℕ) (ce : cl ≡ clawback d) where
         pub step-payable : (x : Step) → x ≡ stepOf d k j → Payable x cl p
         step-payable x xe = rw (xe, ce) (payable d a k j l below p g)
 
-        money-there : (x : Step) (y : Money) → x ≡ stepOf d k j → y ≡ moneyOf (finalOn x cl p) → y ≡ stepMoney d k j
-        money-there x y xe ye =
-            let ye′ : y ≡ moneyOf (finalOn (stepOf d k j) (clawback d) p) = ye ∙ rw (xe, ce) in
-            ye′ ∙ step-money-is d k j p g
+        money-there : (x : Step) → x ≡ stepOf d k j → moneyOf (finalOn x cl p) ≡ stepMoney d k j
+        money-there x xe = rw (xe, ce) (step-money-is d k j p g)
 
-        pub money-addable : (q y : Money) (x : Step) → x ≡ stepOf d k j → q ≡ moneyTo j (stepMoney d k) → y ≡ moneyOf (finalOn x cl p)
-            → (s : ℕ) → (sumIn (q .plus) (y .plus) s < 2 ^ 64) × (sumIn (q .minus) (y .minus) s < 2 ^ 64)
-        money-addable q y x xe qe ye =
-            let ye′ : y ≡ stepMoney d k j = money-there x y xe ye in
-            rw (qe, ye′) (money-adds d a k j l below)
+        pub money-addable : (q : Money) (x : Step) → x ≡ stepOf d k j → q ≡ moneyTo j (stepMoney d k) → MoneyAddable q (moneyOf (finalOn x cl p))
+        money-addable q x xe qe = rw (qe, money-there x xe) (money-adds d a k j l below)
 
-        pub money-next : (q y r : Money) (x : Step) → x ≡ stepOf d k j → q ≡ moneyTo j (stepMoney d k) → y ≡ moneyOf (finalOn x cl p) → r ≡ moneySum q y → r ≡ moneyTo (j + 1) (stepMoney d k)
-        money-next q y r x xe qe ye re =
-            let ye′ : y ≡ stepMoney d k j = money-there x y xe ye in
-            re ∙ rw (qe, ye′) (sym (money-more j (stepMoney d k)))
+        pub money-next : (q r : Money) (x : Step) → x ≡ stepOf d k j → q ≡ moneyTo j (stepMoney d k) → r ≡ moneySum q (moneyOf (finalOn x cl p)) → r ≡ moneyTo (j + 1) (stepMoney d k)
+        money-next q r x xe qe re = re ∙ rw (qe, money-there x xe) (sym (money-more j (stepMoney d k)))
 
 -- a side's part of a line
 pub part-other : (d v : List ℕ) (sd k x : ℕ) (r : SidePool) → v ≡ lineAt d k → x ≡ side v → (x ≡ sd → ⊥) → r ≡ noPool → r ≡ sidePart d sd k
@@ -154,11 +143,6 @@ pool-off d sd cl p e z = record { shared = λ n. absurd (n (sym e ∙ z)) }
 
 pub pool-on : (d : List ℕ) (sd : ℕ) (p : SidePool) → p ≡ sidePool d sd → PoolFor d sd p
 pool-on d sd p e = record { shared = λ n. e }
-
--- clawback off
-pub money-off : (x : Step) (cl : ℕ) (p : SidePool) (r : Money) → cl ≡ 0 → r ≡ moneyOf (initial x) → r ≡ moneyOf (finalOn x cl p)
-unfolding finalOn
-money-off x cl p r e re = re ∙ sym (money-same _ _ (λ s l. off-initial x cl s (poolAt p s) e))
 
 pub market-claw : (d : List ℕ) (m : Market) → m ≡ marketOf d → m .clawback ≡ clawback d
 unfolding marketOf

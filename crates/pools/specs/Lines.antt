@@ -25,22 +25,12 @@ use Rattle.payments.specs.Kinds.{paid-most, taken-most}
 use Rattle.payments.specs.Parts.{changeOn}
 use Rattle.payments.specs.Amounts as amounts
 use Rattle.payments.specs.Amounts.{moneyOf, Signable, paymentOf}
-use Rattle.finals.specs.Amounts.{sumIn, finalOn, poolAt, InPool}
+use Rattle.finals.specs.Amounts.{sumIn, noPool, finalOn, poolAt, InPool, MoneyAddable}
+use Rattle.finals.specs.Parts.{off-initial, money-same}
 use Rattle.inputs.specs.Paid.{scaled-most, sized}
 use Rattle.pools.specs.Sums.{placeOf, rowTo, poolTo, paidOf, takenOf, moneyTo, sum-split}
 use Rattle.pools.specs.Sides.{sidePool, stepAt, lineSum, pool-is}
 use Rattle.pools.specs.Sizes.{sum-fewer, rises-most, falls-most, in-pool}
-
--- no steps
-unfoldable pub noPool : SidePool
-noPool =
-    record {
-      plus = five (λ s. 0);
-      minus = five (λ s. 0);
-      rises = five (λ s. 0);
-      falls = five (λ s. 0);
-      differs = five (λ s. 0);
-    }
 
 -- the pool that the payments of a side read: the side's, unless clawback is off
 pub record PoolFor (d : List ℕ) (sd : ℕ) (p : SidePool) : Type 0 where
@@ -57,15 +47,6 @@ finalAt d k j s = stepFinal d s k j
 unfoldable pub stepMoney : List ℕ → ℕ → ℕ → Money
 stepMoney d k j = moneyOf (finalAt d k j)
 
--- with clawback off the pool is not read
-or-true : (t : Bool) → (t || true) ≡ true
-or-true true = refl
-or-true false = refl
-
-pub off-initial : (x : Step) (claw s : ℕ) (p : Pool) → claw ≡ 0 → finalPayment x claw s p ≡ initial x s
-unfolding finalPayment
-off-initial x claw s p e = rw (eq-eqb claw 0 e, or-true (eqb s 0))
-
 -- the final payments from the pool that the code has are document 01's
 pub final-is : (d : List ℕ) (k j : ℕ) (p : SidePool) → PoolFor d (side (lineAt d k)) p → (s : ℕ) → s < 5 → finalOn (stepOf d k j) (clawback d) p s ≡ finalAt d k j s
 unfolding finalOn finalAt stepFinal
@@ -76,13 +57,6 @@ final-is d k j p h s l =
           ap (finalPayment (stepOf d k j) (clawback d) s)
           (ap (λ (q : SidePool). poolAt q s) (h .shared n) ∙ pool-is d (side (lineAt d k)) s l)
     ]
-
-pub money-same : (f g : ℕ → ℤ) → ((s : ℕ) → s < 5 → f s ≡ g s) → moneyOf f ≡ moneyOf g
-unfolding moneyOf amounts.plusOf amounts.minusOf
-money-same f g h =
-    let p = five-same (λ s. pl (f s)) (λ s. pl (g s)) (λ s l. ap pl (h s l)) in
-    let m = five-same (λ s. mi (f s)) (λ s. mi (g s)) (λ s l. ap mi (h s l)) in
-    λ i. record { plus = p i; minus = m i }
 
 pub step-money-is : (d : List ℕ) (k j : ℕ) (p : SidePool) → PoolFor d (side (lineAt d k)) p → moneyOf (finalOn (stepOf d k j) (clawback d) p) ≡ stepMoney d k j
 unfolding stepMoney
@@ -162,10 +136,12 @@ module _ (d : List ℕ) (a : AcceptedDay d) where
       (λ j h. taken-most (stepOf d k j) (clawback d) s (poolOf d (side (lineAt d k)) s) (sized d a k l j h))
       (falls-most d a k s l i)
 
-  pub money-adds : (k n : ℕ) → k < lineCount d → n < stepCount (lineAt d k) → (s : ℕ)
-      → (sumIn (moneyTo n (stepMoney d k) .plus) (stepMoney d k n .plus) s < 2 ^ 64) × (sumIn (moneyTo n (stepMoney d k) .minus) (stepMoney d k n .minus) s < 2 ^ 64)
-  money-adds k n l h s =
-      (part-adds (λ m. m .plus) pl paid-part d line-paid-most k n l h s, part-adds (λ m. m .minus) mi taken-part d line-taken-most k n l h s)
+  pub money-adds : (k n : ℕ) → k < lineCount d → n < stepCount (lineAt d k) → MoneyAddable (moneyTo n (stepMoney d k)) (stepMoney d k n)
+  money-adds k n l h =
+      record {
+        plus = part-adds (λ m. m .plus) pl paid-part d line-paid-most k n l h;
+        minus = part-adds (λ m. m .minus) mi taken-part d line-taken-most k n l h;
+      }
 
   pub line-signable : (k : ℕ) → k < lineCount d → Signable (moneyTo (stepCount (lineAt d k)) (stepMoney d k))
   line-signable k l =

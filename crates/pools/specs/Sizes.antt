@@ -21,6 +21,7 @@ use Rattle.payments.specs.Sizes.{rate-most}
 use Rattle.payments.specs.Parts.{changeOn, initial-plus, revised-plus, revised-most}
 use Rattle.payments.specs.Kinds.{initial-most}
 use Rattle.finals.specs.Amounts.{sumIn, differsOn, Addable, InPool}
+use Rattle.finals.specs.Parts.{rise-le, fall-le}
 use Rattle.finals.specs.declared.SidePool.{SidePool}
 use Rattle.inputs.specs.Paid.{scaled-most, sized, constrained-most, earlier-most, line}
 use Rattle.pools.specs.Sums.{rowTo, poolTo}
@@ -35,19 +36,6 @@ sum-fewer m (suc n) f h =
       | yes l ↦ let e : m ≡ suc n = omega arith in rw e (omega arith)
       | no g ↦ let q = r (omega arith) in rw (sum-suc n f) (omega arith)
     ]
-
--- a paid rise is at most C(s), and a paid fall at most C(s-1)
-cond-most : (t : Bool) (c : ℕ) → cond t c 0 ≤ c
-cond-most true c = omega arith
-cond-most false c = omega arith
-
-rise-le : (x : Step) (s : ℕ) → changeOn rise x s ≤ at (onStep x) s
-unfolding changeOn rise
-rise-le x s = omega (arith, cond-most (isPaid x s) (at (onStep x) s - earlier (onStep x) s))
-
-fall-le : (x : Step) (s : ℕ) → changeOn fall x s ≤ earlier (onStep x) s
-unfolding changeOn fall
-fall-le x s = omega (arith, cond-most (isPaid x s) (earlier (onStep x) s - at (onStep x) s))
 
 module _ (d : List ℕ) (a : AcceptedDay d) where
   pub rises-most : (k s : ℕ) → k < lineCount d → s < 5 → lineSum (changeOn rise) d s k ≤ quantityMost

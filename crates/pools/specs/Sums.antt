@@ -10,9 +10,10 @@ use borrow.Author.Tests.{lt-ltb, le-ltb, ltb-true, ltb-false}
 use Rattle.rules.specs.Fold.{sumTo, sumZ, someTo, five, at}
 use Rattle.laws.specs.Folds.{sum-more, sum-suc, sum-none, sumZ-none, sumZ-suc, some-none, some-suc, same-five}
 use Rattle.laws.specs.Ints.{Split, split-none, split-add}
+use Rattle.numbers.specs.Fives.{five-is}
 use Rattle.finals.specs.declared.SidePool.{SidePool}
 use Rattle.payments.specs.declared.Money.{Money}
-use Rattle.finals.specs.Amounts.{sumIn, poolSum, moneySum}
+use Rattle.finals.specs.Amounts.{sumIn, noPool, noMoney, poolSum, moneySum}
 
 -- the sum over i below n of place s of row i
 unfoldable pub placeOf : (ℕ → List ℕ) → ℕ → ℕ → ℕ
@@ -24,6 +25,12 @@ rowTo n f s = sumTo n (placeOf f s)
 row-more : (n : ℕ) (f : ℕ → List ℕ) → five (rowTo (n + 1) f) ≡ five (sumIn (five (rowTo n f)) (f n))
 unfolding rowTo sumIn placeOf
 row-more n f = same-five (sum-more n _) (sum-more n _) (sum-more n _) (sum-more n _) (sum-more n _)
+
+row-whole : (f : ℕ → ℕ) → five (sumIn (five f) (five (λ (s : ℕ). 0))) ≡ five f
+unfolding sumIn
+row-whole f =
+    let e : (n : ℕ) → n + 0 ≡ n = λ n. omega arith in
+    five-is f (e (f 0)) (e (f 1)) (e (f 2)) (e (f 3)) (e (f 4))
 
 -- pools
 unfoldable pub plusOf : (ℕ → SidePool) → ℕ → List ℕ
@@ -55,6 +62,10 @@ pub pool-more : (n : ℕ) (f : ℕ → SidePool) → poolTo (n + 1) f ≡ poolSu
 unfolding poolTo poolSum plusOf minusOf risesOf fallsOf differsOf
 pool-more n f = rw (row-more n (λ i. f i .plus), row-more n (λ i. f i .minus), row-more n (λ i. f i .rises), row-more n (λ i. f i .falls), row-more n (λ i. f i .differs))
 
+pub pool-whole : (n : ℕ) (f : ℕ → SidePool) (q : SidePool) → q ≡ poolTo n f → poolSum q noPool ≡ q
+unfolding poolTo poolSum noPool
+pool-whole n f q e = rw (e, row-whole (rowTo n (plusOf f)), row-whole (rowTo n (minusOf f)), row-whole (rowTo n (risesOf f)), row-whole (rowTo n (fallsOf f)), row-whole (rowTo n (differsOf f)))
+
 -- money
 unfoldable pub paidOf : (ℕ → Money) → ℕ → List ℕ
 paidOf f i = f i .plus
@@ -68,6 +79,10 @@ moneyTo n f = record { plus = five (rowTo n (paidOf f)); minus = five (rowTo n (
 pub money-more : (n : ℕ) (f : ℕ → Money) → moneyTo (n + 1) f ≡ moneySum (moneyTo n f) (f n)
 unfolding moneyTo moneySum paidOf takenOf
 money-more n f = rw (row-more n (λ i. f i .plus), row-more n (λ i. f i .minus))
+
+pub money-whole : (n : ℕ) (f : ℕ → Money) (q : Money) → q ≡ moneyTo n f → moneySum q noMoney ≡ q
+unfolding moneyTo moneySum noMoney
+money-whole n f q e = rw (e, row-whole (rowTo n (paidOf f)), row-whole (rowTo n (takenOf f)))
 
 -- a signed sum by what is paid and what is taken back
 pub sum-split : (n : ℕ) (f : ℕ → ℤ) (p m : ℕ → ℕ) → ((i : ℕ) → i < n → Split (f i) (p i) (m i)) → Split (sumZ n f) (sumTo n p) (sumTo n m)

@@ -2,30 +2,25 @@
 use day::line_count;
 use day::line_of;
 use finals::SidePool;
-use finals::final_money;
-use finals::money_add;
+use finals::money_with;
 use finals::pool_add;
-use finals::step_pool;
+use finals::pool_with;
 use inputs::Market;
 use inputs::flag_row;
 use inputs::price_row;
 use inputs::step_of;
 use inputs::totals_of;
 use payments::Money;
-use payments::initial_money;
-use rules::Step;
 ghost use mathlib.Core.Path.{_≡_};
 ghost use Prim.Native.Nat.{_<_};
 ghost use Rattle.rules.specs.Layout.{lineCount, lineAt, side};
 ghost use Rattle.rules.specs.Steps.{stepCount};
 ghost use Rattle.laws.specs.Accepted.{AcceptedDay};
 ghost use Rattle.inputs.specs.Inputs.{marketOf};
-ghost use Rattle.payments.specs.Sizes.{Sized};
-ghost use Rattle.payments.specs.Amounts.{moneyOf};
-ghost use Rattle.finals.specs.Amounts.{finalOn};
+ghost use Rattle.finals.specs.Amounts.{noPool};
 ghost use Rattle.pools.specs.Sums.{moneyTo};
 ghost use Rattle.pools.specs.Sides.{linePool, sidePart, sidePool};
-ghost use Rattle.pools.specs.Lines.{stepMoney, noPool, PoolFor, Payable};
+ghost use Rattle.pools.specs.Lines.{stepMoney, PoolFor};
 
 // What a line is paid in all, and how many steps it has.
 pub struct LinePaid {
@@ -70,7 +65,7 @@ fn line_pool(day: &[u8], k: usize, m: Market) -> SidePool
             price_row(&prices, j),
             flag_row(flags, j),
         );
-        pool = pool_add(pool, step_pool(x));
+        pool = pool_with(pool, x);
         lower = upper;
         j += 1;
     }
@@ -115,17 +110,6 @@ pub fn pool_for(day: &[u8], m: Market, sd: u32) -> SidePool
     side_pool(day, m, sd)
 }
 
-// What a step is paid in the end.
-fn step_money(x: Step, claw: u32, p: SidePool) -> Money
-    requires { ⌜ (Sized x) × (Payable x claw p) ⌝ }
-    ensures { λ r. ⌜ r ≡ moneyOf (finalOn x claw p) ⌝ }
-{
-    if claw == 0 {
-        return initial_money(x);
-    }
-    final_money(x, claw, p)
-}
-
 // What line k is paid, with the pool of its side.
 pub fn line_paid(day: &[u8], k: usize, m: Market, p: SidePool) -> LinePaid
     requires { ⌜ (AcceptedDay (now day)) × (k < lineCount (now day)) × (m ≡ marketOf (now day)) × (PoolFor (now day) (side (lineAt (now day) k)) p) ⌝ }
@@ -158,7 +142,7 @@ pub fn line_paid(day: &[u8], k: usize, m: Market, p: SidePool) -> LinePaid
             price_row(&prices, j),
             flag_row(flags, j),
         );
-        money = money_add(money, step_money(x, claw, p));
+        money = money_with(money, x, claw, p);
         lower = upper;
         j += 1;
     }

@@ -1,5 +1,5 @@
 -- A line of the book, the lines so far, and the whole book, from what the code has worked out.
-use Prim.Native.Nat.{ℕ, _+_, _*_, _≤_, _<_, _^_}
+use Prim.Native.Nat.{ℕ, _+_, _*_, _≤_, _<_}
 use native.Mathlib.Omega.{arith}
 use mathlib.Core.Path.{_≡_, refl, sym, _∙_, ap, subst}
 use mathlib.Core.List.{List, _++_}
@@ -19,7 +19,7 @@ use Rattle.laws.specs.Accepted.{AcceptedDay}
 use Rattle.payments.specs.declared.Money.{Money}
 use Rattle.finals.specs.declared.SidePool.{SidePool}
 use Rattle.payments.specs.Amounts.{Signable, paymentOf}
-use Rattle.finals.specs.Amounts.{sumIn, moneySum}
+use Rattle.finals.specs.Amounts.{moneySum, MoneyAddable}
 use Rattle.pools.specs.Sums.{moneyTo, money-more}
 use Rattle.pools.specs.Lines.{stepMoney, line-signable}
 use Rattle.totals.specs.Sizes.{Bounded}
@@ -49,8 +49,7 @@ module _ (d : List ℕ) (a : AcceptedDay d) (k : ℕ) (l : k < lineCount d) wher
       let paid = pe ∙ ap (λ (z : Money). five (paymentOf z)) ye ∙ payments-are d k in
       (w .bytes ∙ ap (sets b at) (entry-is d k (qe ∙ ap participant ve) (re ∙ ap point ve) (se ∙ ap side ve) ne paid), ye)
 
-  pub total-addable : (q y : Money) → q ≡ moneyTo k (lineMoney d) → y ≡ lineMoney d k
-      → (s : ℕ) → (sumIn (q .plus) (y .plus) s < 2 ^ 64) × (sumIn (q .minus) (y .minus) s < 2 ^ 64)
+  pub total-addable : (q y : Money) → q ≡ moneyTo k (lineMoney d) → y ≡ lineMoney d k → MoneyAddable q y
   total-addable q y qe ye = rw (qe, ye) (total-adds d a k l)
 
 pub lines-next : (d : List ℕ) (k : ℕ) (q y r : Money) → q ≡ moneyTo k (lineMoney d) → y ≡ lineMoney d k → r ≡ moneySum q y → r ≡ moneyTo (k + 1) (lineMoney d)

@@ -15,7 +15,7 @@ use Rattle.laws.specs.Ints.{pl, mi, Split, split-is}
 use Rattle.numbers.specs.Fives.{five-same, past-five}
 use Rattle.payments.specs.declared.Money.{Money}
 use Rattle.payments.specs.Amounts.{Signable, paymentOf}
-use Rattle.finals.specs.Amounts.{sumIn}
+use Rattle.finals.specs.Amounts.{sumIn, MoneyAddable}
 use Rattle.inputs.specs.Paid.{payment-size}
 use Rattle.totals.specs.Sizes.{Bounded}
 use Rattle.totals.specs.Money.{totals-bounded}
@@ -79,10 +79,12 @@ module _ (d : List ℕ) (a : AcceptedDay d) where
   taken-most k s l i = line-taken-most d a k s l i
 
   -- one line more can be added
-  pub total-adds : (k : ℕ) → k < lineCount d → (s : ℕ)
-      → (sumIn (moneyTo k (lineMoney d) .plus) (lineMoney d k .plus) s < 2 ^ 64) × (sumIn (moneyTo k (lineMoney d) .minus) (lineMoney d k .minus) s < 2 ^ 64)
-  total-adds k h s =
-      (lines-add (λ m. m .plus) pl paid-part d (a .header .count-most) paid-most k h s, lines-add (λ m. m .minus) mi taken-part d (a .header .count-most) taken-most k h s)
+  pub total-adds : (k : ℕ) → k < lineCount d → MoneyAddable (moneyTo k (lineMoney d)) (lineMoney d k)
+  total-adds k h =
+      record {
+        plus = lines-add (λ m. m .plus) pl paid-part d (a .header .count-most) paid-most k h;
+        minus = lines-add (λ m. m .minus) mi taken-part d (a .header .count-most) taken-most k h;
+      }
 
   pub total-signable : Signable (moneyTo (lineCount d) (lineMoney d))
   total-signable =

@@ -18,7 +18,8 @@ use Rattle.numbers.specs.Fives.{five-same}
 use Rattle.cutter.specs.Arrays.{padded-at}
 use Rattle.finals.specs.declared.SidePool.{SidePool}
 use Rattle.finals.specs.Amounts.{finalOn, poolAt}
-use Rattle.pools.specs.Lines.{PoolFor, off-initial}
+use Rattle.finals.specs.Parts.{off-initial}
+use Rattle.pools.specs.Lines.{PoolFor}
 use Rattle.view.specs.Figures.{viewFrom, view-is}
 
 -- with clawback off the final payments are the initial ones

@@ -10,13 +10,13 @@ signed-money-requires : tie.Need-signed-money-requires
 unfolding finalOn
 signed-money-requires c κs =
     let g = c .before .args in
-    rw (c .final-money .ensures)
+    rw (c .full-money .ensures)
     (signable (finalOn (g .x) (g .claw) (g .p)) (λ s. final-within (g .x) (g .claw) s (poolAt (g .p) s) (c .before .pre .0)))
 
 returns : tie.Need-returns
 returns c =
     let g = c .before .before .args in
-    rw (c .signed-money .ensures, c .before .final-money .ensures) (money-back (finalOn (g .x) (g .claw) (g .p)))
+    rw (c .signed-money .ensures, c .before .full-money .ensures) (money-back (finalOn (g .x) (g .claw) (g .p)))
 
 pub finals-spec : {M : Type 1} → statement M
 finals-spec = tie.close (tie.spec (λ c κs. search needs) signed-money-requires returns)

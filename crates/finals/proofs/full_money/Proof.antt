@@ -10,7 +10,10 @@ use Rattle.finals.proofs.full_money.Tie as tie
 
 revised-minus-requires : tie.Need-revised-minus-requires
 unfolding matchRow
-revised-minus-requires c κs = (c .before .before .before .before .before .before .before .before .pre .0, rw (c .before .match-table .ensures, c .before .before .before .before .before .before .before .constrained-on .ensures))
+revised-minus-requires c κs =
+    let x = c .before .before .before .before .before .before .before .before .args .x in
+    let down = change-row x fall (c .before .before .before .before .before .before .before .constrained-on .ensures) (c .before .before .before .falls .ensures) (c .before .before .only-paid .ensures) in
+    (c .before .before .before .before .before .before .before .before .pre .0, rw (c .before .match-table .ensures, c .before .before .before .before .before .before .before .constrained-on .ensures), minus-row x down (c .before .before .before .before .rates .ensures) (c .products .ensures))
 
 modified-minus-requires : tie.Need-modified-minus-requires
 unfolding matchRow

@@ -4,10 +4,10 @@ use Rattle.finals.proofs.money_add.Statement.{statement}
 use Rattle.finals.proofs.money_add.Tie as tie
 
 add-rows-requires : tie.Need-add-rows-requires
-add-rows-requires c κs = λ s. c .before .before .before .before .pre s .0
+add-rows-requires c κs = c .before .before .before .before .pre .plus
 
 add-rows-requires-2 : tie.Need-add-rows-requires-2
-add-rows-requires-2 c κs = λ s. c .before .before .before .before .before .pre s .1
+add-rows-requires-2 c κs = c .before .before .before .before .before .pre .minus
 
 returns : tie.Need-returns
 unfolding moneySum

@@ -1,29 +1,27 @@
 -- `payments::revised_money` meets its contract.
-use borrow.Author.Needs.{needs}
 use mathlib.Core.Path.{_∙_, ap}
-use Rattle.matching.specs.Ledgers.{matchRow}
-use Rattle.payments.specs.declared.Money.{Money}
+use borrow.Author.Needs.{needs}
 use Rattle.payments.specs.Amounts.{moneyOf}
 use Rattle.payments.proofs.Joining.{revised-pays}
+use Rattle.matching.specs.Ledgers.{matchRow}
+use Rattle.payments.specs.declared.Money.{Money}
 use Rattle.payments.proofs.revised_money.Statement.{statement}
 use Rattle.payments.proofs.revised_money.Tie as tie
 
 revised-minus-requires : tie.Need-revised-minus-requires
-unfolding matchRow
-revised-minus-requires c κs = (c .before .before .before .before .pre, rw (c .match-table .ensures, c .before .constrained-on .ensures))
+unfolding matchRow moneyOf
+revised-minus-requires c κs = (c .before .before .before .before .before .pre, rw (c .match-table .ensures, c .before .constrained-on .ensures), ap (λ (m : Money). m .minus) (c .before .before .before .before .initial-money .ensures))
 
 returns : tie.Need-returns
 unfolding moneyOf
-returns c =
-    let plus = ap (λ (m : Money). m .plus) (c .before .before .before .before .initial-money .ensures) ∙ revised-pays (c .before .before .before .before .before .args .x) in
-    λ i. record { plus = plus i; minus = c .revised-minus .ensures i }
+returns c = let plus = ap (λ (m : Money). m .plus) (c .before .before .before .before .before .initial-money .ensures) ∙ revised-pays (c .before .before .before .before .before .before .args .x) in λ i. record { plus = plus i; minus = c .revised-minus .ensures i }
 
 pub revised-money-spec : {M : Type 1} → statement M
 revised-money-spec =
     tie.close
     (tie.spec
-    (λ c κs. tt)
-    (λ c κs. tt)
-    (λ c κs. tt)
+    (λ c κs. search needs)
+    (λ c κs. search needs)
+    (λ c κs. search needs)
     revised-minus-requires
     returns)

@@ -7,7 +7,7 @@ use borrow.Author.Needs.{needs}
 use Rattle.rules.specs.Cutting.{prices, flags}
 use Rattle.rules.specs.Layout.{lineAt}
 use Rattle.rules.specs.Steps.{ends, lowerEnd}
-use Rattle.pools.specs.Sums.{moneyTo}
+use Rattle.pools.specs.Sums.{moneyTo, money-whole}
 use Rattle.pools.specs.Lines.{stepMoney, no-money}
 use Rattle.pools.proofs.Laws.{line-lies, lent-length, lent-accepted, lent-line, count-is, count-few, step-built, step-sized, next-lower, step-payable, money-addable, money-next, market-claw}
 use Rattle.pools.proofs.line_paid.Statement.{statement}
@@ -41,17 +41,14 @@ price-row-requires c κs = omega (arith, count-few (now (c .before .before .befo
 flag-row-requires : tie.Need-flag-row-requires Inv-loop μ-loop
 flag-row-requires c κs = omega (arith, count-few (now (c .before .before .before .before .before .before .before .before .before .before .before .args .day)) (c .before .before .before .before .before .before .before .before .before .before .before .pre .0) (c .before .before .before .before .before .before .before .before .before .before .before .args .k) (c .before .before .before .before .before .before .before .before .before .before .before .pre .1) _ (c .before .before .before .before .before .before .before .before .before .line-of .ensures) _ (c .before .before .before .before .before .before .before .steps .ensures))
 
-step-money-requires : tie.Need-step-money-requires Inv-loop μ-loop
-step-money-requires c κs = (step-sized (now (c .before .before .before .before .before .before .before .before .before .before .before .before .before .args .day)) (c .before .before .before .before .before .before .before .before .before .before .before .before .before .pre .0) (c .before .before .before .before .before .before .before .before .before .before .before .before .before .args .k) (c .before .before .before .before .before .before .before .before .before .before .before .before .before .pre .1) _ (c .before .before .before .before .before .before .before .before .before .before .before .line-of .ensures) _ (c .before .before .before .before .before .before .before .before .before .steps .ensures) (c .before .before .before .before .before .loop .j) (omega arith) _ (step-built (now (c .before .before .before .before .before .before .before .before .before .before .before .before .before .args .day)) (c .before .before .before .before .before .before .before .before .before .before .before .before .before .pre .0) (c .before .before .before .before .before .before .before .before .before .before .before .before .before .args .k) (c .before .before .before .before .before .before .before .before .before .before .before .before .before .pre .1) _ (c .before .before .before .before .before .before .before .before .before .before .before .line-of .ensures) _ (c .before .before .before .before .before .before .before .before .before .steps .ensures) (c .before .before .before .before .before .loop .j) (omega arith) _ _ _ _ _ _ _ (c .before .before .before .before .before .before .before .before .before .before .before .before .before .pre .2) (c .before .before .before .before .before .before .before .before .before .before .totals-of .ensures) (c .before .before .before .before .before .loop .inv .1) refl (c .before .before .price-row .ensures) (c .before .flag-row .ensures) (c .step-of .ensures)), step-payable (now (c .before .before .before .before .before .before .before .before .before .before .before .before .before .args .day)) (c .before .before .before .before .before .before .before .before .before .before .before .before .before .pre .0) (c .before .before .before .before .before .before .before .before .before .before .before .before .before .args .k) (c .before .before .before .before .before .before .before .before .before .before .before .before .before .pre .1) _ (c .before .before .before .before .before .before .before .before .before .before .before .line-of .ensures) _ (c .before .before .before .before .before .before .before .before .before .steps .ensures) (c .before .before .before .before .before .loop .j) (omega arith) _ (c .before .before .before .before .before .before .before .before .before .before .before .before .before .pre .3) _ (market-claw (now (c .before .before .before .before .before .before .before .before .before .before .before .before .before .args .day)) _ (c .before .before .before .before .before .before .before .before .before .before .before .before .before .pre .2)) _ (step-built (now (c .before .before .before .before .before .before .before .before .before .before .before .before .before .args .day)) (c .before .before .before .before .before .before .before .before .before .before .before .before .before .pre .0) (c .before .before .before .before .before .before .before .before .before .before .before .before .before .args .k) (c .before .before .before .before .before .before .before .before .before .before .before .before .before .pre .1) _ (c .before .before .before .before .before .before .before .before .before .before .before .line-of .ensures) _ (c .before .before .before .before .before .before .before .before .before .steps .ensures) (c .before .before .before .before .before .loop .j) (omega arith) _ _ _ _ _ _ _ (c .before .before .before .before .before .before .before .before .before .before .before .before .before .pre .2) (c .before .before .before .before .before .before .before .before .before .before .totals-of .ensures) (c .before .before .before .before .before .loop .inv .1) refl (c .before .before .price-row .ensures) (c .before .flag-row .ensures) (c .step-of .ensures)))
-
-money-add-requires : tie.Need-money-add-requires Inv-loop μ-loop
-money-add-requires c κs = money-addable (now (c .before .before .before .before .before .before .before .before .before .before .before .before .before .before .args .day)) (c .before .before .before .before .before .before .before .before .before .before .before .before .before .before .pre .0) (c .before .before .before .before .before .before .before .before .before .before .before .before .before .before .args .k) (c .before .before .before .before .before .before .before .before .before .before .before .before .before .before .pre .1) _ (c .before .before .before .before .before .before .before .before .before .before .before .before .line-of .ensures) _ (c .before .before .before .before .before .before .before .before .before .before .steps .ensures) (c .before .before .before .before .before .before .loop .j) (omega arith) _ (c .before .before .before .before .before .before .before .before .before .before .before .before .before .before .pre .3) _ (market-claw (now (c .before .before .before .before .before .before .before .before .before .before .before .before .before .before .args .day)) _ (c .before .before .before .before .before .before .before .before .before .before .before .before .before .before .pre .2)) _ _ _ (step-built (now (c .before .before .before .before .before .before .before .before .before .before .before .before .before .before .args .day)) (c .before .before .before .before .before .before .before .before .before .before .before .before .before .before .pre .0) (c .before .before .before .before .before .before .before .before .before .before .before .before .before .before .args .k) (c .before .before .before .before .before .before .before .before .before .before .before .before .before .before .pre .1) _ (c .before .before .before .before .before .before .before .before .before .before .before .before .line-of .ensures) _ (c .before .before .before .before .before .before .before .before .before .before .steps .ensures) (c .before .before .before .before .before .before .loop .j) (omega arith) _ _ _ _ _ _ _ (c .before .before .before .before .before .before .before .before .before .before .before .before .before .before .pre .2) (c .before .before .before .before .before .before .before .before .before .before .before .totals-of .ensures) (c .before .before .before .before .before .before .loop .inv .1) refl (c .before .before .before .price-row .ensures) (c .before .before .flag-row .ensures) (c .before .step-of .ensures)) (c .before .before .before .before .before .before .loop .inv .2) (c .step-money .ensures)
+money-with-requires : tie.Need-money-with-requires Inv-loop μ-loop
+money-with-requires c κs = (step-sized (now (c .before .before .before .before .before .before .before .before .before .before .before .before .before .args .day)) (c .before .before .before .before .before .before .before .before .before .before .before .before .before .pre .0) (c .before .before .before .before .before .before .before .before .before .before .before .before .before .args .k) (c .before .before .before .before .before .before .before .before .before .before .before .before .before .pre .1) _ (c .before .before .before .before .before .before .before .before .before .before .before .line-of .ensures) _ (c .before .before .before .before .before .before .before .before .before .steps .ensures) (c .before .before .before .before .before .loop .j) (omega arith) _ (step-built (now (c .before .before .before .before .before .before .before .before .before .before .before .before .before .args .day)) (c .before .before .before .before .before .before .before .before .before .before .before .before .before .pre .0) (c .before .before .before .before .before .before .before .before .before .before .before .before .before .args .k) (c .before .before .before .before .before .before .before .before .before .before .before .before .before .pre .1) _ (c .before .before .before .before .before .before .before .before .before .before .before .line-of .ensures) _ (c .before .before .before .before .before .before .before .before .before .steps .ensures) (c .before .before .before .before .before .loop .j) (omega arith) _ _ _ _ _ _ _ (c .before .before .before .before .before .before .before .before .before .before .before .before .before .pre .2) (c .before .before .before .before .before .before .before .before .before .before .totals-of .ensures) (c .before .before .before .before .before .loop .inv .1) refl (c .before .before .price-row .ensures) (c .before .flag-row .ensures) (c .step-of .ensures)), step-payable (now (c .before .before .before .before .before .before .before .before .before .before .before .before .before .args .day)) (c .before .before .before .before .before .before .before .before .before .before .before .before .before .pre .0) (c .before .before .before .before .before .before .before .before .before .before .before .before .before .args .k) (c .before .before .before .before .before .before .before .before .before .before .before .before .before .pre .1) _ (c .before .before .before .before .before .before .before .before .before .before .before .line-of .ensures) _ (c .before .before .before .before .before .before .before .before .before .steps .ensures) (c .before .before .before .before .before .loop .j) (omega arith) _ (c .before .before .before .before .before .before .before .before .before .before .before .before .before .pre .3) _ (market-claw (now (c .before .before .before .before .before .before .before .before .before .before .before .before .before .args .day)) _ (c .before .before .before .before .before .before .before .before .before .before .before .before .before .pre .2)) _ (step-built (now (c .before .before .before .before .before .before .before .before .before .before .before .before .before .args .day)) (c .before .before .before .before .before .before .before .before .before .before .before .before .before .pre .0) (c .before .before .before .before .before .before .before .before .before .before .before .before .before .args .k) (c .before .before .before .before .before .before .before .before .before .before .before .before .before .pre .1) _ (c .before .before .before .before .before .before .before .before .before .before .before .line-of .ensures) _ (c .before .before .before .before .before .before .before .before .before .steps .ensures) (c .before .before .before .before .before .loop .j) (omega arith) _ _ _ _ _ _ _ (c .before .before .before .before .before .before .before .before .before .before .before .before .before .pre .2) (c .before .before .before .before .before .before .before .before .before .before .totals-of .ensures) (c .before .before .before .before .before .loop .inv .1) refl (c .before .before .price-row .ensures) (c .before .flag-row .ensures) (c .step-of .ensures)) .pooled, money-addable (now (c .before .before .before .before .before .before .before .before .before .before .before .before .before .args .day)) (c .before .before .before .before .before .before .before .before .before .before .before .before .before .pre .0) (c .before .before .before .before .before .before .before .before .before .before .before .before .before .args .k) (c .before .before .before .before .before .before .before .before .before .before .before .before .before .pre .1) _ (c .before .before .before .before .before .before .before .before .before .before .before .line-of .ensures) _ (c .before .before .before .before .before .before .before .before .before .steps .ensures) (c .before .before .before .before .before .loop .j) (omega arith) _ (c .before .before .before .before .before .before .before .before .before .before .before .before .before .pre .3) _ (market-claw (now (c .before .before .before .before .before .before .before .before .before .before .before .before .before .args .day)) _ (c .before .before .before .before .before .before .before .before .before .before .before .before .before .pre .2)) _ _ (step-built (now (c .before .before .before .before .before .before .before .before .before .before .before .before .before .args .day)) (c .before .before .before .before .before .before .before .before .before .before .before .before .before .pre .0) (c .before .before .before .before .before .before .before .before .before .before .before .before .before .args .k) (c .before .before .before .before .before .before .before .before .before .before .before .before .before .pre .1) _ (c .before .before .before .before .before .before .before .before .before .before .before .line-of .ensures) _ (c .before .before .before .before .before .before .before .before .before .steps .ensures) (c .before .before .before .before .before .loop .j) (omega arith) _ _ _ _ _ _ _ (c .before .before .before .before .before .before .before .before .before .before .before .before .before .pre .2) (c .before .before .before .before .before .before .before .before .before .before .totals-of .ensures) (c .before .before .before .before .before .loop .inv .1) refl (c .before .before .price-row .ensures) (c .before .flag-row .ensures) (c .step-of .ensures)) (c .before .before .before .before .before .loop .inv .2), money-whole (c .before .before .before .before .before .loop .j) (stepMoney (now (c .before .before .before .before .before .before .before .before .before .before .before .before .before .args .day)) (c .before .before .before .before .before .before .before .before .before .before .before .before .before .args .k)) _ (c .before .before .before .before .before .loop .inv .2))
 
 add-j : tie.Need-add-j Inv-loop μ-loop
-add-j c = record { fits = omega (arith, count-few (now (c .before .before .before .before .before .before .before .before .before .before .before .before .before .before .before .args .day)) (c .before .before .before .before .before .before .before .before .before .before .before .before .before .before .before .pre .0) (c .before .before .before .before .before .before .before .before .before .before .before .before .before .before .before .args .k) (c .before .before .before .before .before .before .before .before .before .before .before .before .before .before .before .pre .1) _ (c .before .before .before .before .before .before .before .before .before .before .before .before .before .line-of .ensures) _ (c .before .before .before .before .before .before .before .before .before .before .before .steps .ensures)) }
+add-j c = record { fits = omega (arith, count-few (now (c .before .before .before .before .before .before .before .before .before .before .before .before .before .before .args .day)) (c .before .before .before .before .before .before .before .before .before .before .before .before .before .before .pre .0) (c .before .before .before .before .before .before .before .before .before .before .before .before .before .before .args .k) (c .before .before .before .before .before .before .before .before .before .before .before .before .before .before .pre .1) _ (c .before .before .before .before .before .before .before .before .before .before .before .before .line-of .ensures) _ (c .before .before .before .before .before .before .before .before .before .before .steps .ensures)) }
 
 loop-again : tie.Need-loop-again Inv-loop μ-loop
-loop-again c = (omega arith, next-lower (now (c .before .before .before .before .before .before .before .before .before .before .before .before .before .before .before .args .day)) (c .before .before .before .before .before .before .before .before .before .before .before .before .before .before .before .pre .0) (c .before .before .before .before .before .before .before .before .before .before .before .before .before .before .before .args .k) (c .before .before .before .before .before .before .before .before .before .before .before .before .before .before .before .pre .1) _ (c .before .before .before .before .before .before .before .before .before .before .before .before .before .line-of .ensures) _ (c .before .before .before .before .before .before .before .before .before .before .before .steps .ensures) (c .before .before .before .before .before .before .before .loop .j) (omega arith) _ refl, money-next (now (c .before .before .before .before .before .before .before .before .before .before .before .before .before .before .before .args .day)) (c .before .before .before .before .before .before .before .before .before .before .before .before .before .before .before .pre .0) (c .before .before .before .before .before .before .before .before .before .before .before .before .before .before .before .args .k) (c .before .before .before .before .before .before .before .before .before .before .before .before .before .before .before .pre .1) _ (c .before .before .before .before .before .before .before .before .before .before .before .before .before .line-of .ensures) _ (c .before .before .before .before .before .before .before .before .before .before .before .steps .ensures) (c .before .before .before .before .before .before .before .loop .j) (omega arith) _ (c .before .before .before .before .before .before .before .before .before .before .before .before .before .before .before .pre .3) _ (market-claw (now (c .before .before .before .before .before .before .before .before .before .before .before .before .before .before .before .args .day)) _ (c .before .before .before .before .before .before .before .before .before .before .before .before .before .before .before .pre .2)) _ _ _ _ (step-built (now (c .before .before .before .before .before .before .before .before .before .before .before .before .before .before .before .args .day)) (c .before .before .before .before .before .before .before .before .before .before .before .before .before .before .before .pre .0) (c .before .before .before .before .before .before .before .before .before .before .before .before .before .before .before .args .k) (c .before .before .before .before .before .before .before .before .before .before .before .before .before .before .before .pre .1) _ (c .before .before .before .before .before .before .before .before .before .before .before .before .before .line-of .ensures) _ (c .before .before .before .before .before .before .before .before .before .before .before .steps .ensures) (c .before .before .before .before .before .before .before .loop .j) (omega arith) _ _ _ _ _ _ _ (c .before .before .before .before .before .before .before .before .before .before .before .before .before .before .before .pre .2) (c .before .before .before .before .before .before .before .before .before .before .before .before .totals-of .ensures) (c .before .before .before .before .before .before .before .loop .inv .1) refl (c .before .before .before .before .price-row .ensures) (c .before .before .before .flag-row .ensures) (c .before .before .step-of .ensures)) (c .before .before .before .before .before .before .before .loop .inv .2) (c .before .step-money .ensures) (c .money-add .ensures))
+loop-again c = (omega arith, next-lower (now (c .before .before .before .before .before .before .before .before .before .before .before .before .before .before .args .day)) (c .before .before .before .before .before .before .before .before .before .before .before .before .before .before .pre .0) (c .before .before .before .before .before .before .before .before .before .before .before .before .before .before .args .k) (c .before .before .before .before .before .before .before .before .before .before .before .before .before .before .pre .1) _ (c .before .before .before .before .before .before .before .before .before .before .before .before .line-of .ensures) _ (c .before .before .before .before .before .before .before .before .before .before .steps .ensures) (c .before .before .before .before .before .before .loop .j) (omega arith) _ refl, money-next (now (c .before .before .before .before .before .before .before .before .before .before .before .before .before .before .args .day)) (c .before .before .before .before .before .before .before .before .before .before .before .before .before .before .pre .0) (c .before .before .before .before .before .before .before .before .before .before .before .before .before .before .args .k) (c .before .before .before .before .before .before .before .before .before .before .before .before .before .before .pre .1) _ (c .before .before .before .before .before .before .before .before .before .before .before .before .line-of .ensures) _ (c .before .before .before .before .before .before .before .before .before .before .steps .ensures) (c .before .before .before .before .before .before .loop .j) (omega arith) _ (c .before .before .before .before .before .before .before .before .before .before .before .before .before .before .pre .3) _ (market-claw (now (c .before .before .before .before .before .before .before .before .before .before .before .before .before .before .args .day)) _ (c .before .before .before .before .before .before .before .before .before .before .before .before .before .before .pre .2)) _ _ _ (step-built (now (c .before .before .before .before .before .before .before .before .before .before .before .before .before .before .args .day)) (c .before .before .before .before .before .before .before .before .before .before .before .before .before .before .pre .0) (c .before .before .before .before .before .before .before .before .before .before .before .before .before .before .args .k) (c .before .before .before .before .before .before .before .before .before .before .before .before .before .before .pre .1) _ (c .before .before .before .before .before .before .before .before .before .before .before .before .line-of .ensures) _ (c .before .before .before .before .before .before .before .before .before .before .steps .ensures) (c .before .before .before .before .before .before .loop .j) (omega arith) _ _ _ _ _ _ _ (c .before .before .before .before .before .before .before .before .before .before .before .before .before .before .pre .2) (c .before .before .before .before .before .before .before .before .before .before .before .totals-of .ensures) (c .before .before .before .before .before .before .loop .inv .1) refl (c .before .before .before .price-row .ensures) (c .before .before .flag-row .ensures) (c .before .step-of .ensures)) (c .before .before .before .before .before .before .loop .inv .2) (c .money-with .ensures))
 
 returns : tie.Need-returns Inv-loop μ-loop
 returns c = (count-is (now (c .before .before .before .before .before .before .before .before .before .args .day)) (c .before .before .before .before .before .before .before .before .before .pre .0) (c .before .before .before .before .before .before .before .before .before .args .k) (c .before .before .before .before .before .before .before .before .before .pre .1) _ (c .before .before .before .before .before .before .before .line-of .ensures) _ (c .before .before .before .before .before .steps .ensures), c .before .loop .inv .2 ∙ ap (λ (z : ℕ). moneyTo z (stepMoney (now (c .before .before .before .before .before .before .before .before .before .args .day)) (c .before .before .before .before .before .before .before .before .before .args .k))) (omega (arith, count-is (now (c .before .before .before .before .before .before .before .before .before .args .day)) (c .before .before .before .before .before .before .before .before .before .pre .0) (c .before .before .before .before .before .before .before .before .before .args .k) (c .before .before .before .before .before .before .before .before .before .pre .1) _ (c .before .before .before .before .before .before .before .line-of .ensures) _ (c .before .before .before .before .before .steps .ensures))))
@@ -72,8 +69,7 @@ line-paid-spec =
     price-row-requires
     flag-row-requires
     (λ c κs. search needs)
-    step-money-requires
-    money-add-requires
+    money-with-requires
     add-j
     (λ c. search needs)
     loop-again

@@ -7,7 +7,7 @@ use borrow.Author.Needs.{needs}
 use Rattle.rules.specs.Cutting.{prices, flags}
 use Rattle.rules.specs.Layout.{lineAt}
 use Rattle.rules.specs.Steps.{ends, lowerEnd}
-use Rattle.pools.specs.Sums.{poolTo}
+use Rattle.pools.specs.Sums.{poolTo, pool-whole}
 use Rattle.pools.specs.Sides.{stepPoolAt, linePool}
 use Rattle.pools.specs.Lines.{no-pool}
 use Rattle.pools.proofs.Laws.{line-lies, lent-length, lent-accepted, lent-line, count-is, count-few, step-built, step-sized, next-lower, pool-addable, pool-next}
@@ -42,17 +42,14 @@ price-row-requires c κs = omega (arith, count-few (now (c .before .before .befo
 flag-row-requires : tie.Need-flag-row-requires Inv-loop μ-loop
 flag-row-requires c κs = omega (arith, count-few (now (c .before .before .before .before .before .before .before .before .before .before .before .before .before .args .day)) (c .before .before .before .before .before .before .before .before .before .before .before .before .before .pre .0) (c .before .before .before .before .before .before .before .before .before .before .before .before .before .args .k) (c .before .before .before .before .before .before .before .before .before .before .before .before .before .pre .1) _ (c .before .before .before .before .before .before .before .before .before .before .before .line-of .ensures) _ (c .before .before .before .before .before .before .before .before .before .steps .ensures))
 
-step-pool-requires : tie.Need-step-pool-requires Inv-loop μ-loop
-step-pool-requires c κs = step-sized (now (c .before .before .before .before .before .before .before .before .before .before .before .before .before .before .before .args .day)) (c .before .before .before .before .before .before .before .before .before .before .before .before .before .before .before .pre .0) (c .before .before .before .before .before .before .before .before .before .before .before .before .before .before .before .args .k) (c .before .before .before .before .before .before .before .before .before .before .before .before .before .before .before .pre .1) _ (c .before .before .before .before .before .before .before .before .before .before .before .before .before .line-of .ensures) _ (c .before .before .before .before .before .before .before .before .before .before .before .steps .ensures) (c .before .before .before .before .before .loop .j) (omega arith) _ (step-built (now (c .before .before .before .before .before .before .before .before .before .before .before .before .before .before .before .args .day)) (c .before .before .before .before .before .before .before .before .before .before .before .before .before .before .before .pre .0) (c .before .before .before .before .before .before .before .before .before .before .before .before .before .before .before .args .k) (c .before .before .before .before .before .before .before .before .before .before .before .before .before .before .before .pre .1) _ (c .before .before .before .before .before .before .before .before .before .before .before .before .before .line-of .ensures) _ (c .before .before .before .before .before .before .before .before .before .before .before .steps .ensures) (c .before .before .before .before .before .loop .j) (omega arith) _ _ _ _ _ _ _ (c .before .before .before .before .before .before .before .before .before .before .before .before .before .before .before .pre .2) (c .before .before .before .before .before .before .before .before .before .before .before .before .totals-of .ensures) (c .before .before .before .before .before .loop .inv .1) refl (c .before .before .price-row .ensures) (c .before .flag-row .ensures) (c .step-of .ensures))
-
-pool-add-requires : tie.Need-pool-add-requires Inv-loop μ-loop
-pool-add-requires c κs = pool-addable (now (c .before .before .before .before .before .before .before .before .before .before .before .before .before .before .before .before .args .day)) (c .before .before .before .before .before .before .before .before .before .before .before .before .before .before .before .before .pre .0) (c .before .before .before .before .before .before .before .before .before .before .before .before .before .before .before .before .args .k) (c .before .before .before .before .before .before .before .before .before .before .before .before .before .before .before .before .pre .1) _ (c .before .before .before .before .before .before .before .before .before .before .before .before .before .before .line-of .ensures) _ (c .before .before .before .before .before .before .before .before .before .before .before .before .steps .ensures) (c .before .before .before .before .before .before .loop .j) (omega arith) _ _ _ (step-built (now (c .before .before .before .before .before .before .before .before .before .before .before .before .before .before .before .before .args .day)) (c .before .before .before .before .before .before .before .before .before .before .before .before .before .before .before .before .pre .0) (c .before .before .before .before .before .before .before .before .before .before .before .before .before .before .before .before .args .k) (c .before .before .before .before .before .before .before .before .before .before .before .before .before .before .before .before .pre .1) _ (c .before .before .before .before .before .before .before .before .before .before .before .before .before .before .line-of .ensures) _ (c .before .before .before .before .before .before .before .before .before .before .before .before .steps .ensures) (c .before .before .before .before .before .before .loop .j) (omega arith) _ _ _ _ _ _ _ (c .before .before .before .before .before .before .before .before .before .before .before .before .before .before .before .before .pre .2) (c .before .before .before .before .before .before .before .before .before .before .before .before .before .totals-of .ensures) (c .before .before .before .before .before .before .loop .inv .1) refl (c .before .before .before .price-row .ensures) (c .before .before .flag-row .ensures) (c .before .step-of .ensures)) (c .before .before .before .before .before .before .loop .inv .2) (c .step-pool .ensures)
+pool-with-requires : tie.Need-pool-with-requires Inv-loop μ-loop
+pool-with-requires c κs = (step-sized (now (c .before .before .before .before .before .before .before .before .before .before .before .before .before .before .before .args .day)) (c .before .before .before .before .before .before .before .before .before .before .before .before .before .before .before .pre .0) (c .before .before .before .before .before .before .before .before .before .before .before .before .before .before .before .args .k) (c .before .before .before .before .before .before .before .before .before .before .before .before .before .before .before .pre .1) _ (c .before .before .before .before .before .before .before .before .before .before .before .before .before .line-of .ensures) _ (c .before .before .before .before .before .before .before .before .before .before .before .steps .ensures) (c .before .before .before .before .before .loop .j) (omega arith) _ (step-built (now (c .before .before .before .before .before .before .before .before .before .before .before .before .before .before .before .args .day)) (c .before .before .before .before .before .before .before .before .before .before .before .before .before .before .before .pre .0) (c .before .before .before .before .before .before .before .before .before .before .before .before .before .before .before .args .k) (c .before .before .before .before .before .before .before .before .before .before .before .before .before .before .before .pre .1) _ (c .before .before .before .before .before .before .before .before .before .before .before .before .before .line-of .ensures) _ (c .before .before .before .before .before .before .before .before .before .before .before .steps .ensures) (c .before .before .before .before .before .loop .j) (omega arith) _ _ _ _ _ _ _ (c .before .before .before .before .before .before .before .before .before .before .before .before .before .before .before .pre .2) (c .before .before .before .before .before .before .before .before .before .before .before .before .totals-of .ensures) (c .before .before .before .before .before .loop .inv .1) refl (c .before .before .price-row .ensures) (c .before .flag-row .ensures) (c .step-of .ensures)), pool-addable (now (c .before .before .before .before .before .before .before .before .before .before .before .before .before .before .before .args .day)) (c .before .before .before .before .before .before .before .before .before .before .before .before .before .before .before .pre .0) (c .before .before .before .before .before .before .before .before .before .before .before .before .before .before .before .args .k) (c .before .before .before .before .before .before .before .before .before .before .before .before .before .before .before .pre .1) _ (c .before .before .before .before .before .before .before .before .before .before .before .before .before .line-of .ensures) _ (c .before .before .before .before .before .before .before .before .before .before .before .steps .ensures) (c .before .before .before .before .before .loop .j) (omega arith) _ _ (step-built (now (c .before .before .before .before .before .before .before .before .before .before .before .before .before .before .before .args .day)) (c .before .before .before .before .before .before .before .before .before .before .before .before .before .before .before .pre .0) (c .before .before .before .before .before .before .before .before .before .before .before .before .before .before .before .args .k) (c .before .before .before .before .before .before .before .before .before .before .before .before .before .before .before .pre .1) _ (c .before .before .before .before .before .before .before .before .before .before .before .before .before .line-of .ensures) _ (c .before .before .before .before .before .before .before .before .before .before .before .steps .ensures) (c .before .before .before .before .before .loop .j) (omega arith) _ _ _ _ _ _ _ (c .before .before .before .before .before .before .before .before .before .before .before .before .before .before .before .pre .2) (c .before .before .before .before .before .before .before .before .before .before .before .before .totals-of .ensures) (c .before .before .before .before .before .loop .inv .1) refl (c .before .before .price-row .ensures) (c .before .flag-row .ensures) (c .step-of .ensures)) (c .before .before .before .before .before .loop .inv .2), pool-whole (c .before .before .before .before .before .loop .j) (stepPoolAt (now (c .before .before .before .before .before .before .before .before .before .before .before .before .before .before .before .args .day)) (c .before .before .before .before .before .before .before .before .before .before .before .before .before .before .before .args .k)) _ (c .before .before .before .before .before .loop .inv .2))
 
 add-j : tie.Need-add-j Inv-loop μ-loop
-add-j c = record { fits = omega (arith, count-few (now (c .before .before .before .before .before .before .before .before .before .before .before .before .before .before .before .before .before .args .day)) (c .before .before .before .before .before .before .before .before .before .before .before .before .before .before .before .before .before .pre .0) (c .before .before .before .before .before .before .before .before .before .before .before .before .before .before .before .before .before .args .k) (c .before .before .before .before .before .before .before .before .before .before .before .before .before .before .before .before .before .pre .1) _ (c .before .before .before .before .before .before .before .before .before .before .before .before .before .before .before .line-of .ensures) _ (c .before .before .before .before .before .before .before .before .before .before .before .before .before .steps .ensures)) }
+add-j c = record { fits = omega (arith, count-few (now (c .before .before .before .before .before .before .before .before .before .before .before .before .before .before .before .before .args .day)) (c .before .before .before .before .before .before .before .before .before .before .before .before .before .before .before .before .pre .0) (c .before .before .before .before .before .before .before .before .before .before .before .before .before .before .before .before .args .k) (c .before .before .before .before .before .before .before .before .before .before .before .before .before .before .before .before .pre .1) _ (c .before .before .before .before .before .before .before .before .before .before .before .before .before .before .line-of .ensures) _ (c .before .before .before .before .before .before .before .before .before .before .before .before .steps .ensures)) }
 
 loop-again : tie.Need-loop-again Inv-loop μ-loop
-loop-again c = (omega arith, next-lower (now (c .before .before .before .before .before .before .before .before .before .before .before .before .before .before .before .before .before .args .day)) (c .before .before .before .before .before .before .before .before .before .before .before .before .before .before .before .before .before .pre .0) (c .before .before .before .before .before .before .before .before .before .before .before .before .before .before .before .before .before .args .k) (c .before .before .before .before .before .before .before .before .before .before .before .before .before .before .before .before .before .pre .1) _ (c .before .before .before .before .before .before .before .before .before .before .before .before .before .before .before .line-of .ensures) _ (c .before .before .before .before .before .before .before .before .before .before .before .before .before .steps .ensures) (c .before .before .before .before .before .before .before .loop .j) (omega arith) _ refl, pool-next (now (c .before .before .before .before .before .before .before .before .before .before .before .before .before .before .before .before .before .args .day)) (c .before .before .before .before .before .before .before .before .before .before .before .before .before .before .before .before .before .pre .0) (c .before .before .before .before .before .before .before .before .before .before .before .before .before .before .before .before .before .args .k) (c .before .before .before .before .before .before .before .before .before .before .before .before .before .before .before .before .before .pre .1) _ (c .before .before .before .before .before .before .before .before .before .before .before .before .before .before .before .line-of .ensures) _ (c .before .before .before .before .before .before .before .before .before .before .before .before .before .steps .ensures) (c .before .before .before .before .before .before .before .loop .j) (omega arith) _ _ _ _ (step-built (now (c .before .before .before .before .before .before .before .before .before .before .before .before .before .before .before .before .before .args .day)) (c .before .before .before .before .before .before .before .before .before .before .before .before .before .before .before .before .before .pre .0) (c .before .before .before .before .before .before .before .before .before .before .before .before .before .before .before .before .before .args .k) (c .before .before .before .before .before .before .before .before .before .before .before .before .before .before .before .before .before .pre .1) _ (c .before .before .before .before .before .before .before .before .before .before .before .before .before .before .before .line-of .ensures) _ (c .before .before .before .before .before .before .before .before .before .before .before .before .before .steps .ensures) (c .before .before .before .before .before .before .before .loop .j) (omega arith) _ _ _ _ _ _ _ (c .before .before .before .before .before .before .before .before .before .before .before .before .before .before .before .before .before .pre .2) (c .before .before .before .before .before .before .before .before .before .before .before .before .before .before .totals-of .ensures) (c .before .before .before .before .before .before .before .loop .inv .1) refl (c .before .before .before .before .price-row .ensures) (c .before .before .before .flag-row .ensures) (c .before .before .step-of .ensures)) (c .before .before .before .before .before .before .before .loop .inv .2) (c .before .step-pool .ensures) (c .pool-add .ensures))
+loop-again c = (omega arith, next-lower (now (c .before .before .before .before .before .before .before .before .before .before .before .before .before .before .before .before .args .day)) (c .before .before .before .before .before .before .before .before .before .before .before .before .before .before .before .before .pre .0) (c .before .before .before .before .before .before .before .before .before .before .before .before .before .before .before .before .args .k) (c .before .before .before .before .before .before .before .before .before .before .before .before .before .before .before .before .pre .1) _ (c .before .before .before .before .before .before .before .before .before .before .before .before .before .before .line-of .ensures) _ (c .before .before .before .before .before .before .before .before .before .before .before .before .steps .ensures) (c .before .before .before .before .before .before .loop .j) (omega arith) _ refl, pool-next (now (c .before .before .before .before .before .before .before .before .before .before .before .before .before .before .before .before .args .day)) (c .before .before .before .before .before .before .before .before .before .before .before .before .before .before .before .before .pre .0) (c .before .before .before .before .before .before .before .before .before .before .before .before .before .before .before .before .args .k) (c .before .before .before .before .before .before .before .before .before .before .before .before .before .before .before .before .pre .1) _ (c .before .before .before .before .before .before .before .before .before .before .before .before .before .before .line-of .ensures) _ (c .before .before .before .before .before .before .before .before .before .before .before .before .steps .ensures) (c .before .before .before .before .before .before .loop .j) (omega arith) _ _ _ (step-built (now (c .before .before .before .before .before .before .before .before .before .before .before .before .before .before .before .before .args .day)) (c .before .before .before .before .before .before .before .before .before .before .before .before .before .before .before .before .pre .0) (c .before .before .before .before .before .before .before .before .before .before .before .before .before .before .before .before .args .k) (c .before .before .before .before .before .before .before .before .before .before .before .before .before .before .before .before .pre .1) _ (c .before .before .before .before .before .before .before .before .before .before .before .before .before .before .line-of .ensures) _ (c .before .before .before .before .before .before .before .before .before .before .before .before .steps .ensures) (c .before .before .before .before .before .before .loop .j) (omega arith) _ _ _ _ _ _ _ (c .before .before .before .before .before .before .before .before .before .before .before .before .before .before .before .before .pre .2) (c .before .before .before .before .before .before .before .before .before .before .before .before .before .totals-of .ensures) (c .before .before .before .before .before .before .loop .inv .1) refl (c .before .before .before .price-row .ensures) (c .before .before .flag-row .ensures) (c .before .step-of .ensures)) (c .before .before .before .before .before .before .loop .inv .2) (c .pool-with .ensures))
 
 returns : tie.Need-returns Inv-loop μ-loop
 unfolding linePool
@@ -75,8 +72,7 @@ line-pool-spec =
     price-row-requires
     flag-row-requires
     (λ c κs. search needs)
-    step-pool-requires
-    pool-add-requires
+    pool-with-requires
     add-j
     (λ c. search needs)
     loop-again
