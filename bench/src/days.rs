@@ -87,7 +87,11 @@ pub fn times() {
             }
         }
         let pairs = taken[0].iter().zip(&taken[1]);
-        let ratio = median(&mut pairs.map(|(ours, theirs)| ours / theirs).collect::<Vec<f64>>());
+        let ratio = median(
+            &mut pairs
+                .map(|(ours, theirs)| ours / theirs)
+                .collect::<Vec<f64>>(),
+        );
         let us = taken.map(|mut values| median(&mut values));
         println!(
             "| {lines} | {} | {:.2} | {:.2} | {ratio:.2} |",
@@ -95,5 +99,19 @@ pub fn times() {
             us[0],
             us[1]
         );
+    }
+}
+
+/// Settling needs little stack: a thread that has 32 KB settles the longest days.
+#[test]
+fn little_stack() {
+    for clawback in [0, 1] {
+        let days = days(64, clawback);
+        let settle = move || {
+            let mut book = vec![0; BOOK];
+            days.iter().all(|day| proved::settle(day, &mut book) == 0)
+        };
+        let thread = std::thread::Builder::new().stack_size(32 * 1024);
+        assert!(thread.spawn(settle).unwrap().join().unwrap());
     }
 }
