@@ -1,11 +1,10 @@
 //! Settling of whole days: the proved one beside the reference's.
 
-use crate::{median, proved};
+use crate::{beside, day_table, proved};
 use reference::generate::{line_with_steps, valid_day};
 use reference::layout::MOST_STEPS;
 use reference::refusal::day_number;
 use std::hint::black_box;
-use std::time::Instant;
 
 type Settler = fn(&[u8], &mut [u8]) -> u32;
 
@@ -70,36 +69,17 @@ fn compare(days: &[Vec<u8>]) {
     }
 }
 
-/// Each round times one pass of each, beginning with another one each time.
 pub fn times() {
-    println!("| Lines | Clawback | proved us | reference us | proved / reference |");
-    println!("|---|---|---|---|---|");
-    for (lines, clawback) in DAYS {
+    day_table(|lines, clawback| {
         let days = days(lines, clawback);
         compare(&days);
-        let mut taken: [Vec<f64>; 2] = Default::default();
-        for round in 0..ROUNDS {
-            for turn in 0..2 {
-                let which = (round + turn) % 2;
-                let start = Instant::now();
-                pass(SETTLERS[which].1, &days);
-                taken[which].push(start.elapsed().as_nanos() as f64 / COUNT as f64 / 1000.0);
-            }
-        }
-        let pairs = taken[0].iter().zip(&taken[1]);
-        let ratio = median(
-            &mut pairs
-                .map(|(ours, theirs)| ours / theirs)
-                .collect::<Vec<f64>>(),
-        );
-        let us = taken.map(|mut values| median(&mut values));
-        println!(
-            "| {lines} | {} | {:.2} | {:.2} | {ratio:.2} |",
-            ["off", "on"][clawback as usize],
-            us[0],
-            us[1]
-        );
-    }
+        let [proved, reference] = SETTLERS.map(|(_, settler)| settler);
+        beside(
+            ROUNDS,
+            COUNT,
+            [&|| pass(proved, &days), &|| pass(reference, &days)],
+        )
+    });
 }
 
 /// Settling needs little stack: a thread that has 32 KB settles the longest days.

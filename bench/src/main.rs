@@ -1,8 +1,9 @@
-//! Times the proved cutter and settling beside the reference's, on the same lines and days in one run.
+//! Times the proved cutter, settling and step view beside the reference's, on the same lines and days in one run.
 
 mod days;
 mod proved;
 mod sorted;
+mod views;
 
 use reference::cut::Cut;
 use reference::generate::line_with_steps;
@@ -58,6 +59,8 @@ fn main() -> ExitCode {
             times();
             println!();
             days::times();
+            println!();
+            views::times();
         }
         ["settle", settler, lines, clawback, times] => {
             let settler = days::SETTLERS.iter().find(|(name, _)| *name == settler);
@@ -146,6 +149,34 @@ fn cutters_agree() {
     let mut longer = line(0);
     longer.push(0);
     (0..=longer.len()).for_each(|length| compare(&longer[..length]));
+}
+
+/// Microseconds of one of `count` things in a pass of each of two, and the ratio of the first to the second: medians over the rounds, each of
+/// which begins with another one.
+fn beside(rounds: usize, count: usize, passes: [&dyn Fn(); 2]) -> ([f64; 2], f64) {
+    let mut taken: [Vec<f64>; 2] = Default::default();
+    for round in 0..rounds {
+        for turn in 0..2 {
+            let which = (round + turn) % 2;
+            let start = Instant::now();
+            passes[which]();
+            taken[which].push(start.elapsed().as_nanos() as f64 / count as f64 / 1000.0);
+        }
+    }
+    let ratios = taken[0].iter().zip(&taken[1]).map(|(a, b)| a / b);
+    let ratio = median(&mut ratios.collect::<Vec<f64>>());
+    (taken.map(|mut values| median(&mut values)), ratio)
+}
+
+/// Prints a table with a row for each kind of day.
+fn day_table(row: impl Fn(u32, u32) -> ([f64; 2], f64)) {
+    println!("| Lines | Clawback | proved us | reference us | proved / reference |");
+    println!("|---|---|---|---|---|");
+    for (lines, clawback) in days::DAYS {
+        let ([proved, reference], ratio) = row(lines, clawback);
+        let clawback = ["off", "on"][clawback as usize];
+        println!("| {lines} | {clawback} | {proved:.2} | {reference:.2} | {ratio:.2} |");
+    }
 }
 
 fn median(values: &mut [f64]) -> f64 {
