@@ -12,7 +12,7 @@ use mir.Facts.{toZ-ofZ}
 use Rattle.rules.specs.Fold.{joined}
 use Rattle.rules.specs.Book.{le, signedBytes}
 use Rattle.bookbytes.specs.Reading.{le-length}
-use Rattle.text.specs.Put.{Written, written-as, row-more}
+use Rattle.digits.specs.Put.{Written, written-as, row-more}
 use Rattle.book.specs.Entries.{moneyBytes, pairBytes}
 
 -- the k bytes of a number

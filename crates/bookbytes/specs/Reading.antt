@@ -100,7 +100,3 @@ bits-fit (negsuc n) h = omega arith
 
 pub signed-stands : {b : List ℕ} {i : ℕ} (z : ℤ) → Stands b i (le 8 (bits64 z)) → mag z < 2 ^ 63 → signedAt b i ≡ z
 signed-stands z s h = ap signedOf (long-stands (bits64 z) s (bits-fit z h)) ∙ signed-bits z h
-
--- the eight bytes of a number with others behind them
-pub signed-read : (z : ℤ) (rest : List ℕ) → mag z < 2 ^ 63 → signedAt (le 8 (bits64 z) ++ rest) 0 ≡ z
-signed-read z rest h = signed-stands z (stands-own (le 8 (bits64 z)) rest) h

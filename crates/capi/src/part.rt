@@ -1,5 +1,5 @@
 // The line part for other languages.
-use day::line_part_number;
+use header::line_part_number;
 ghost use mathlib.Core.Path.{_≡_};
 ghost use lib.ListN.{take, drop};
 ghost use Rattle.rules.specs.Refusals.{linePartFault, linePart};

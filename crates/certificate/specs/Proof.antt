@@ -27,8 +27,8 @@ use Rattle.totals.specs.Sizes.{Bounded, mag-size, adjusted-size}
 use Rattle.bookbytes.specs.Reading.{signedAt}
 use Rattle.bookbytes.specs.Framing.{paymentAt, book-words, book-adjusted, book-payment, after-settling}
 use Rattle.certificate.specs.Certificate.{Certified, matchIn, matchesMade, matchesWith, adjustedIn, paymentsIn}
-use Rattle.quantities.specs.Bounds.{aginoOn-most, msiqOn-most}
-use Rattle.quantities.specs.Adding.{stepPricing, stepOperating, pricing-adds-up, operating-adds-up}
+use Rattle.allocation.specs.Bounds.{aginoOn-most, msiqOn-most}
+use Rattle.allocation.specs.Adding.{stepPricing, stepOperating, pricing-adds-up, operating-adds-up}
 use Rattle.matching.specs.Balance.{matchedWith, matchesIn, falls-matched, rises-bound, rises-balance}
 use Rattle.cutter.specs.Certificate.{endAt, widthAt}
 use Rattle.inputs.specs.Ends.{line-ends, widths-sum}

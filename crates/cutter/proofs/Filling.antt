@@ -1,12 +1,11 @@
 -- Lists that are filled one step at a time: padded lists, rows of 56, words of flags.
-use Prim.Native.Nat.{ℕ, zero, suc, _+_, _*_, _-_, _/_, _%_, _^_, _≤_, _<_}
-use native.Mathlib.Nat.{zero-add, suc-add, pow-suc, mul-assoc, zero-mul}
+use Prim.Native.Nat.{ℕ, zero, suc, _+_, _*_, _-_, _/_, _^_, _≤_, _<_}
+use native.Mathlib.Nat.{zero-add, suc-add, pow-suc, mul-assoc}
 use native.Mathlib.Omega.{arith}
-use native.Mathlib.Decide.{decLt}
-use mathlib.Core.Path.{_≡_, refl, sym, _∙_, ap, ap₂, subst}
+use mathlib.Core.Path.{_≡_, refl, sym, _∙_, ap, ap₂}
 use mathlib.Core.List.{List, [], _∷_, _++_, append-assoc, append-nil}
-use lib.ListN.{length, getD, take, set, replicate, length-append, length-replicate, length-set}
-use lib.Seq.{take-suc, set-at, set-append-left, append-snoc, length-take-le, take-nil, take-all}
+use lib.ListN.{length, getD, take, set, replicate, length-set}
+use lib.Seq.{take-suc, set-at, set-append-left, append-snoc, length-take-le}
 use lib.Pow.{pow-pos}
 use lib.Count.{ones, onesIn, ones-step}
 use Rattle.rules.specs.Fold.{padded, joined, sumOf}
@@ -28,10 +27,6 @@ padded-set m n l a b =
     (set-at (take n l) 0 (replicate (m - suc n) 0) (getD l n 0) n p
     ∙ sym (append-snoc (take n l) (getD l n 0) (replicate (m - suc n) 0))
     ∙ rw (take-suc l n 0 a))
-
-pub padded-none : (m : ℕ) (l : List ℕ) → replicate m 0 ≡ padded m (take 0 l)
-unfolding padded
-padded-none m l = let e : m - 0 ≡ m = omega arith in rw e
 
 -- place n of each of the first m rows of 56
 unfoldable pub putTo : ℕ → List ℕ → ℕ → (ℕ → ℕ) → List ℕ

@@ -10,9 +10,9 @@ use lib.Dec.{ltb, eqb}
 use borrow.Author.Tests.{lt-ltb, le-ltb, eq-eqb, ne-eqb}
 use Rattle.rules.specs.Fold.{listTo}
 use Rattle.rules.specs.Steps.{insert, rising}
-use Rattle.cutter.specs.Search.{First}
+use Rattle.sweep.specs.Search.{First}
 use Rattle.cutter.specs.Lists.{_∈_, here, there, Order, less, same, more, order, insert-none, insert-lt, insert-eq, insert-gt, Rises, rises-none, rises-more, rises-mono}
-use Rattle.cutter.specs.Sweep.{past, above}
+use Rattle.sweep.specs.Sweep.{past, above}
 
 pub above-in : (e x : ℕ) → e < x → above e x ≡ x
 unfolding above

@@ -19,9 +19,9 @@ use Rattle.cutter.specs.Lists.{in-at}
 use Rattle.cutter.specs.Ends.{end-of, end-most, most-limit, count-most}
 use Rattle.cutter.specs.Prices.{flag-most, prices-length, prices-at, flags-length, flags-at, flags-most}
 use Rattle.cutter.specs.Arrays.{padded-length}
-use Rattle.cutter.specs.Sweep.{Line, Room, Markable, Within, Limited, past, sweepFor, sweepMoved, nextGap, withFlag, wordsMarked, pricesPut}
-use Rattle.cutter.specs.declared.Sweep.{Sweep}
-use Rattle.cutter.specs.declared.Words.{Words}
+use Rattle.sweep.specs.Sweep.{Line, Room, Markable, Within, Limited, past, sweepFor, sweepMoved, nextGap, withFlag, wordsMarked, pricesPut}
+use Rattle.sweep.specs.declared.Sweep.{Sweep}
+use Rattle.sweep.specs.declared.Words.{Words}
 use Rattle.cutter.proofs.Cursors.{AtMost, at-most, cursor-price, cursor-flag, sweep-moves, sweep-next, sweep-within, sweep-limited, Gap, near, none, sweep-gap}
 use Rattle.cutter.proofs.Filling.{padded-set, putTo, joined-same, rows-all, bits-more, bits-below, ones-bits}
 

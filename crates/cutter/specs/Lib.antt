@@ -1,8 +1,6 @@
 -- The cutter's certificate, with the laws on the definitions of `rules` that prove it.
-pub mod Search
 pub mod Lists
 pub mod Ends
 pub mod Prices
 pub mod Arrays
 pub mod Certificate
-pub mod Sweep

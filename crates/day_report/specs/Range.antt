@@ -19,7 +19,7 @@ use Rattle.laws.specs.Folds.{at-five}
 use Rattle.cutter.specs.Ends.{count-most}
 use Rattle.inputs.specs.Paid.{payment-size}
 use Rattle.totals.specs.Sizes.{Bounded, size, mag-size, adjusted-size}
-use Rattle.settling.specs.Sums.{day-bounded}
+use Rattle.book_lines.specs.Sums.{day-bounded}
 use Rattle.report.specs.BookText.{reportMost, reportOf, report-short}
 use Rattle.report.specs.Settled.{InRange, report-is}
 

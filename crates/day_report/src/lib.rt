@@ -4,7 +4,7 @@ ghost use mathlib.Core.List.{[]};
 ghost use mathlib.Core.Bool.{cond};
 ghost use lib.Dec.{ltb};
 ghost use Rattle.rules.specs.Report.{reportText};
-ghost use Rattle.text.specs.Put.{Written};
+ghost use Rattle.digits.specs.Put.{Written};
 ghost use Rattle.report.specs.BookText.{reportMost};
 use report::report;
 use settling::settle;

@@ -1,22 +1,59 @@
-// The fields of one line's 660 bytes: the kinds quantity and price, a bid's count, totals, and rows 11 to 13.
-pub mod kinds;
-pub mod sums;
-
+// M, and rows 11 to 13 of the refusals.
+use bid_breaks::count_of;
+use numbers::greater;
+use rows::operating_table;
+use rows::pricing_totals;
+use sums::operating_totals;
+use sums::wide;
+use tail_rows::actuals_number;
+use tail_rows::hedge_number;
+use tail_rows::totals_number;
 ghost use mathlib.Core.Path.{_≡_};
-ghost use Prim.Native.Nat.{_<_};
+ghost use Prim.Native.Nat.{_+_, _*_, _<_};
 ghost use lib.ListN.{length};
-ghost use Rattle.rules.specs.Layout.{bidCount};
+ghost use Rattle.rules.specs.Fold.{first};
+ghost use Rattle.rules.specs.Steps.{bidMost, greatestBreak};
+ghost use Rattle.rules.specs.Refusals.{bidFault};
+ghost use Rattle.fields.specs.Parts.{tailFault};
 
-// How many steps the bid of schedule s has.
-pub fn count_of(line: &[u8], s: usize) -> usize
-    requires { ⌜ (length (now line) ≡ 660) × (s < 5) ⌝ }
-    ensures { λ r. ⌜ r ≡ bidCount (now (line .entry)) s ⌝ }
+// The greatest break of an accepted bid is its last.
+fn bid_most(line: &[u8], s: usize) -> u32
+    requires { ⌜ (length (now line) ≡ 660) × (s < 5) × (bidFault (now line) s ≡ 0) ⌝ }
+    ensures { λ r. ⌜ r ≡ bidMost (now (line .entry)) s ⌝ }
 {
-    wide(bytes_le::word_at(line, 4 * (5 + 23 * s)))
+    let count = count_of(line, s);
+    bytes_le::word_at(line, 4 * (5 + 23 * s + 1 + (count - 1)))
 }
 
-fn wide(v: u32) -> usize
-    ensures { λ r. ⌜ r ≡ v ⌝ }
+// M, where the bids are accepted.
+pub fn greatest_break(line: &[u8]) -> u32
+    requires { ⌜ (length (now line) ≡ 660) × (first (bidFault (now line)) 5 ≡ 0) ⌝ }
+    ensures { λ r. ⌜ r ≡ greatestBreak (now (line .entry)) ⌝ }
 {
-    v as usize
+    let three = greater(
+        greater(bid_most(line, 0), bid_most(line, 1)),
+        bid_most(line, 2),
+    );
+    greater(greater(three, bid_most(line, 3)), bid_most(line, 4))
+}
+
+// Rows 11 to 13, where the bids are accepted.
+pub fn tail_number(line: &[u8]) -> u32
+    requires { ⌜ (length (now line) ≡ 660) × (first (bidFault (now line)) 5 ≡ 0) ⌝ }
+    ensures { λ r. ⌜ r ≡ tailFault (now (line .entry)) ⌝ }
+{
+    let most = greatest_break(line);
+    let hedge = hedge_number(line, most);
+    if hedge != 0 {
+        return hedge;
+    }
+    let totals = totals_number(
+        wide(most),
+        pricing_totals(line),
+        operating_totals(operating_table(line)),
+    );
+    if totals != 0 {
+        return totals;
+    }
+    actuals_number(line)
 }

@@ -1,261 +1,38 @@
 // Document 01, "Payments": the pool of a side, and the final payments of one step, which are worked out from it.
-
+use amounts::Money;
+use changes::falls;
+use changes::only_paid;
+use changes::products;
+use changes::rises;
+use given_back::modified_minus;
+use given_back::revised_minus;
 use matching::match_table;
-use numbers::greater;
 use numbers::greater64;
 use numbers::less64;
-use numbers::lesser;
 use numbers::lesser64;
 use numbers::share;
 use numbers::wide;
-use payments::Money;
-use payments::falls;
-use payments::modified_minus;
-use payments::only_paid;
-use payments::products;
-use payments::rates;
-use payments::revised_minus;
-use payments::rises;
 use payments::signed_money;
+use pool_amounts::Changes;
+use pool_amounts::SidePool;
 use quantities::constrained_on;
+use rates::rates;
 use rules::Step;
+use side_pool::add_rows;
+use skipped_steps::changes_on;
+use skipped_steps::none;
+use skipped_steps::unconstrained;
+use skipped_steps::unpaid;
 ghost use mathlib.Core.Path.{_≡_};
-ghost use mathlib.Core.Bool.{cond, not};
-ghost use Prim.Native.Nat.{ℕ, _+_, _-_, _<_, _^_};
+ghost use mathlib.Core.Bool.{cond};
+ghost use Prim.Native.Nat.{ℕ, _+_, _-_, _<_};
 ghost use lib.Dec.{eqb};
-ghost use Rattle.rules.specs.Fold.{mostTo, five, at};
-ghost use Rattle.rules.specs.Quantities.{leastFrom};
+ghost use Rattle.rules.specs.Fold.{five, at};
 ghost use Rattle.rules.specs.Payments as paper;
-ghost use Rattle.payments.specs.Sizes.{Sized};
-ghost use Rattle.payments.specs.Parts.{takenBack};
-ghost use Rattle.payments.specs.Amounts.{moneyOf, minusOf};
-ghost use Rattle.finals.specs.Amounts.{
-  sumIn,
-  differIn,
-  moneySum,
-  stepPool,
-  noPool,
-  noMoney,
-  changesOn,
-  poolSum,
-  totalIn,
-  baseIn,
-  takenIn,
-  finalOn,
-  allZero,
-  isUnconstrained,
-  Kept,
-  Sharing,
-  InPool,
-  Addable,
-  MoneyAddable,
-};
-
-// The pool of one side, by schedule.
-pub struct SidePool {
-    // what its revised payments pay and take back: T is their difference
-    pub plus: [u64; 5],
-    pub minus: [u64; 5],
-    // of its paid steps: B is the greater
-    pub rises: [u64; 5],
-    pub falls: [u64; 5],
-    // how many revised payments differ from their initial ones
-    pub differs: [u64; 5],
-}
-
-// 1 where two numbers differ.
-fn differ(a: u64, b: u64) -> u64
-    ensures { λ r. ⌜ r ≡ paper.bit (not (eqb a b)) ⌝ }
-{
-    if a == b {
-        return 0;
-    }
-    1
-}
-
-fn differing(a: [u64; 5], b: [u64; 5]) -> [u64; 5]
-    ensures { λ r. ⌜ r ≡ five (differIn a b) ⌝ }
-{
-    [
-        differ(a[0], b[0]),
-        differ(a[1], b[1]),
-        differ(a[2], b[2]),
-        differ(a[3], b[3]),
-        differ(a[4], b[4]),
-    ]
-}
-
-fn widened(q: [u32; 5]) -> [u64; 5]
-    ensures { λ r. ⌜ r ≡ five (at q) ⌝ }
-{
-    [wide(q[0]), wide(q[1]), wide(q[2]), wide(q[3]), wide(q[4])]
-}
-
-// Whether all five are 0.
-fn none(v: [u64; 5]) -> bool
-    ensures { λ r. ⌜ r ≡ allZero v ⌝ }
-{
-    let a = greater64(v[0], v[1]);
-    let b = greater64(a, v[2]);
-    let c = greater64(b, v[3]);
-    greater64(c, v[4]) == 0
-}
-
-fn least(q: [u32; 5]) -> u32
-    ensures { λ r. ⌜ r ≡ leastFrom q 0 4 ⌝ }
-{
-    let d = lesser(q[3], q[4]);
-    let c = lesser(q[2], d);
-    let b = lesser(q[1], c);
-    lesser(q[0], b)
-}
-
-fn most(q: [u32; 5]) -> u32
-    ensures { λ r. ⌜ r ≡ mostTo 5 (at q) ⌝ }
-{
-    let a = greater(q[0], q[1]);
-    let b = greater(a, q[2]);
-    let c = greater(b, q[3]);
-    greater(c, q[4])
-}
-
-// Whether no schedule pays the step.
-fn unpaid(x: Step) -> bool
-    ensures { λ r. ⌜ r ≡ allZero (x .paid) ⌝ }
-{
-    let marks = x.paid;
-    most(marks) == 0
-}
-
-// Whether the step lies within every pricing total or past every operating total: its C are all 0.
-fn unconstrained(x: Step) -> bool
-    ensures { λ r. ⌜ r ≡ isUnconstrained x ⌝ }
-{
-    let pricing = x.pricing;
-    let operating = x.operating;
-    if x.upper <= least(pricing) {
-        return true;
-    }
-    most(operating) <= x.lower
-}
-
-// A step's paid rises and falls, and what its initial payments pay and take back.
-pub struct Changes {
-    pub rises: [u32; 5],
-    pub falls: [u32; 5],
-    pub plus: [u64; 5],
-    pub minus: [u64; 5],
-}
-
-// From C and R.
-fn changes_on(x: Step, c: [u32; 5], rate: [u32; 5]) -> Changes
-    requires { ⌜ (c ≡ paper.onStep x) × (rate ≡ five (paper.rate x)) ⌝ }
-    ensures { λ r. ⌜ r ≡ changesOn x ⌝ }
-{
-    let paid = x.paid;
-    let rise = only_paid(paid, rises(c));
-    let fall = only_paid(paid, falls(c));
-    Changes {
-        rises: rise,
-        falls: fall,
-        plus: products(rise, rate),
-        minus: products(fall, rate),
-    }
-}
-
-// What a step adds to its side's pool where no initial payment takes something back: its revised payments are the initial ones.
-fn kept_pool(x: Step, v: Changes) -> SidePool
-    requires { ⌜ (v ≡ changesOn x) × (Kept x) ⌝ }
-    ensures { λ r. ⌜ r ≡ stepPool x ⌝ }
-{
-    let plus = v.plus;
-    let rise = v.rises;
-    let fall = v.falls;
-    SidePool {
-        plus: plus,
-        minus: [0; 5],
-        rises: widened(rise),
-        falls: widened(fall),
-        differs: [0; 5],
-    }
-}
-
-// What any step adds to its side's pool.
-fn full_pool(x: Step, c: [u32; 5], v: Changes) -> SidePool
-    requires { ⌜ (Sized x) × (c ≡ paper.onStep x) × (v ≡ changesOn x) ⌝ }
-    ensures { λ r. ⌜ r ≡ stepPool x ⌝ }
-{
-    let plus = v.plus;
-    let initial = v.minus;
-    let rise = v.rises;
-    let fall = v.falls;
-    let minus = revised_minus(x, match_table(c), initial);
-    SidePool {
-        plus: plus,
-        minus: minus,
-        rises: widened(rise),
-        falls: widened(fall),
-        differs: differing(minus, initial),
-    }
-}
-
-fn add_rows(a: [u64; 5], b: [u64; 5]) -> [u64; 5]
-    requires { ⌜ ((s : ℕ) → sumIn a b s < 2 ^ 64) ⌝ }
-    ensures { λ r. ⌜ r ≡ five (sumIn a b) ⌝ }
-{
-    [
-        a[0] + b[0],
-        a[1] + b[1],
-        a[2] + b[2],
-        a[3] + b[3],
-        a[4] + b[4],
-    ]
-}
-
-// Two pools, or two parts of one.
-pub fn pool_add(a: SidePool, b: SidePool) -> SidePool
-    requires { ⌜ Addable a b ⌝ }
-    ensures { λ r. ⌜ r ≡ poolSum a b ⌝ }
-{
-    let plus = a.plus;
-    let minus = a.minus;
-    let rises = a.rises;
-    let falls = a.falls;
-    let differs = a.differs;
-    let more_plus = b.plus;
-    let more_minus = b.minus;
-    let more_rises = b.rises;
-    let more_falls = b.falls;
-    let more_differs = b.differs;
-    SidePool {
-        plus: add_rows(plus, more_plus),
-        minus: add_rows(minus, more_minus),
-        rises: add_rows(rises, more_rises),
-        falls: add_rows(falls, more_falls),
-        differs: add_rows(differs, more_differs),
-    }
-}
-
-// A pool with one step more. An unpaid step adds nothing, nor does an unconstrained one; most others take nothing back, and need no
-// matches.
-pub fn pool_with(p: SidePool, x: Step) -> SidePool
-    requires { ⌜ (Sized x) × (Addable p (stepPool x)) × (poolSum p noPool ≡ p) ⌝ }
-    ensures { λ r. ⌜ r ≡ poolSum p (stepPool x) ⌝ }
-{
-    if unpaid(x) {
-        return p;
-    }
-    if unconstrained(x) {
-        return p;
-    }
-    let c = constrained_on(x);
-    let v = changes_on(x, c, rates(x));
-    let minus = v.minus;
-    if none(minus) {
-        return pool_add(p, kept_pool(x, v));
-    }
-    pool_add(p, full_pool(x, c, v))
-}
+ghost use Rattle.amounts.specs.Sizes.{Sized};
+ghost use Rattle.amounts.specs.Parts.{takenBack};
+ghost use Rattle.amounts.specs.Amounts.{moneyOf, minusOf};
+ghost use Rattle.pool_amounts.specs.Amounts.{moneySum, noMoney, changesOn, totalIn, baseIn, takenIn, finalOn, Sharing, InPool, MoneyAddable};
 
 // T of a schedule, or 0 where it isn't above 0 or nothing differs.
 fn shared_total(plus: u64, minus: u64, differs: u64) -> u64

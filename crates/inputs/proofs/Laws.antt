@@ -14,13 +14,14 @@ use Rattle.rules.specs.Refusals.{lineFault}
 use Rattle.rules.specs.declared.Step.{Step}
 use Rattle.laws.specs.Folds.{same-five, at-five}
 use Rattle.laws.specs.Accepted.{accepted-line}
-use Rattle.fields.specs.Parts.{tableTotal, lesserSum, lesserAt}
-use Rattle.fields.proofs.Laws.{table-total}
+use Rattle.sums.specs.Sums.{tableTotal, lesserSum, lesserAt}
+use Rattle.sums.proofs.Totals.{table-total}
 use Rattle.cutter.specs.Arrays.{bitAt}
 use Rattle.cutter.specs.Ends.{most-limit}
 use Rattle.inputs.specs.declared.Market.{Market}
 use Rattle.inputs.specs.declared.LineTotals.{LineTotals}
-use Rattle.inputs.specs.Inputs.{wordIn, marketOf, totalsOf, cappedIn, paidIn, stepFrom}
+use Rattle.inputs.specs.Inputs.{wordIn, marketOf, totalsOf, stepFrom}
+use Rattle.step_terms.specs.Terms.{cappedIn, paidIn}
 use Rattle.inputs.specs.Steps.{actual-most}
 
 -- a bit by a shift

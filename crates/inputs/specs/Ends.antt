@@ -10,7 +10,7 @@ use Rattle.laws.specs.Accepted.{AcceptedLine}
 use Rattle.laws.specs.Folds.{sum-same}
 use Rattle.cutter.specs.Lists.{rises-at, in-at}
 use Rattle.cutter.specs.Ends.{ends-rise, end-of, end-most, count-some, last-is}
-use Rattle.quantities.specs.Adding.{RisingEnds, allocatedBetween, steps-add-up}
+use Rattle.allocation.specs.Adding.{RisingEnds, allocatedBetween, steps-add-up}
 
 -- what stands before the end of n steps is the last one's upper end
 lower-last : (w : List ℕ) (n : ℕ) → 0 < n → lowerEnd w n ≡ upperEnd w (n - 1)

@@ -1,17 +1,15 @@
 -- The market table and a line's totals as the code holds them, and a step put together from them.
-use Prim.Native.Nat.{ℕ, _+_, _*_, min}
+use Prim.Native.Nat.{ℕ, _+_, _*_}
 use mathlib.Core.List.{List}
-use mathlib.Core.Bool.{cond, not, _&&_}
 use lib.ListN.{getD}
-use lib.Dec.{eqb, leb}
 use Rattle.rules.specs.Fold.{five, at}
 use Rattle.rules.specs.Layout as layout
 use Rattle.rules.specs.Quantities.{pricingTotal, operatingTotal, effectiveActual}
-use Rattle.rules.specs.Payments.{bit}
 use Rattle.rules.specs.declared.Step.{Step}
 use Rattle.cutter.specs.Arrays.{bitAt}
 use Rattle.inputs.specs.declared.Market.{Market}
 use Rattle.inputs.specs.declared.LineTotals.{LineTotals}
+use Rattle.step_terms.specs.Terms.{cappedIn, paidIn}
 
 -- word s of those from byte i on
 unfoldable pub wordIn : List ℕ → ℕ → ℕ → ℕ
@@ -36,20 +34,6 @@ totalsOf w =
       operating = five (operatingTotal w);
       actual = effectiveActual w;
     }
-
--- a price with a cap mark and the cap
-unfoldable pub cappedAt : ℕ → ℕ → ℕ → ℕ
-cappedAt mark cap p = cond (eqb mark 1) (min p cap) p
-
-unfoldable pub cappedIn : List ℕ → ℕ → List ℕ → ℕ → ℕ
-cappedIn mark cap p s = cappedAt (at mark s) cap (at p s)
-
--- 1 where a step that ends at u is paid
-unfoldable pub paidOn : ℕ → ℕ → ℕ → ℕ
-paidOn accreditation hedge u = bit (eqb accreditation 1 && not (leb u hedge))
-
-unfoldable pub paidIn : ℕ → ℕ → ℕ → ℕ → ℕ
-paidIn accreditation hedge u s = paidOn accreditation hedge u
 
 unfoldable pub stepFrom : Market → LineTotals → ℕ → ℕ → List ℕ → List ℕ → Step
 stepFrom m t l u p f =

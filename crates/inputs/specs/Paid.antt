@@ -19,10 +19,10 @@ use Rattle.laws.specs.Folds.{sum-none, sum-suc, sum-le, sum-most, sumZ-none, su
 use Rattle.laws.specs.Ints.{pl, mi, apart, pl-add, mi-add}
 use Rattle.totals.specs.Sizes.{size}
 use Rattle.numbers.specs.Fives.{five-most}
-use Rattle.quantities.specs.Adding.{stepConstrained, constrained-adds-up}
-use Rattle.payments.specs.Sizes.{Sized}
-use Rattle.payments.specs.Parts.{changeOn}
-use Rattle.payments.specs.Kinds.{paid-most, taken-most}
+use Rattle.allocation.specs.Adding.{stepConstrained, constrained-adds-up}
+use Rattle.amounts.specs.Sizes.{Sized}
+use Rattle.amounts.specs.Parts.{changeOn}
+use Rattle.amounts.specs.Kinds.{paid-most, taken-most}
 use Rattle.cutter.specs.Ends.{most-limit}
 use Rattle.inputs.specs.Ends.{line-ends, upper-most}
 

@@ -15,7 +15,8 @@ use Rattle.laws.specs.Accepted.{AcceptedLine}
 use Rattle.cutter.specs.Arrays.{bitAt, bits-at, padded-at, padded-length, rows-at}
 use Rattle.cutter.specs.Prices.{prices-at, prices-length, flags-at, flags-most}
 use Rattle.cutter.specs.Ends.{count-most}
-use Rattle.inputs.specs.Inputs.{marketOf, totalsOf, cappedAt, cappedIn, paidOn, paidIn, stepFrom, priceIn, flagIn}
+use Rattle.inputs.specs.Inputs.{marketOf, totalsOf, stepFrom, priceIn, flagIn}
+use Rattle.step_terms.specs.Terms.{cappedAt, cappedIn, paidOn, paidIn}
 
 -- the parts of `stepOf`, with the cutter's rows
 step-parts : (d : List ℕ) (k j : ℕ) (p f : List ℕ)

@@ -1,18 +1,19 @@
 // What one step is worked out from: the market table, a line's totals and the cut step, put together as a `Step`.
 use bytes_le::word_at;
-use fields::sums::actuals;
-use fields::sums::effective_actual;
-use fields::sums::operating_table;
-use fields::sums::operating_totals;
-use fields::sums::pricing_totals;
-use numbers::lesser;
+use rows::actuals;
+use rows::operating_table;
+use rows::pricing_totals;
 use rules::Step;
+use step_terms::capped_row;
+use step_terms::paid_row;
+use sums::effective_actual;
+use sums::operating_totals;
 ghost use mathlib.Core.Path.{_≡_};
 ghost use Prim.Native.Nat.{ℕ, _≤_, _<_, _^_};
 ghost use lib.ListN.{length};
 ghost use Rattle.rules.specs.Fold.{five, at};
 ghost use Rattle.rules.specs.Refusals.{lineFault};
-ghost use Rattle.inputs.specs.Inputs.{marketOf, totalsOf, cappedAt, cappedIn, paidOn, paidIn, stepFrom, priceIn, flagIn};
+ghost use Rattle.inputs.specs.Inputs.{marketOf, totalsOf, stepFrom, priceIn, flagIn};
 ghost use Rattle.cutter.specs.Arrays.{bitAt};
 
 // The market table.
@@ -93,47 +94,6 @@ pub fn totals_of(line: &[u8]) -> LineTotals
         operating: narrow_row(operating_totals(table)),
         actual: narrow(effective_actual(last, actuals(line))),
     }
-}
-
-fn capped(mark: u32, cap: u32, price: u32) -> u32
-    ensures { λ r. ⌜ r ≡ cappedAt mark cap price ⌝ }
-{
-    if mark == 1 {
-        return lesser(price, cap);
-    }
-    price
-}
-
-fn capped_row(mark: [u32; 5], cap: u32, price: [u32; 5]) -> [u32; 5]
-    ensures { λ r. ⌜ r ≡ five (cappedIn mark cap price) ⌝ }
-{
-    [
-        capped(mark[0], cap, price[0]),
-        capped(mark[1], cap, price[1]),
-        capped(mark[2], cap, price[2]),
-        capped(mark[3], cap, price[3]),
-        capped(mark[4], cap, price[4]),
-    ]
-}
-
-// 1 where a step that ends at `upper` is paid.
-fn paid(accreditation: u32, hedge: u32, upper: u32) -> u32
-    ensures { λ r. ⌜ r ≡ paidOn accreditation hedge upper ⌝ }
-{
-    if accreditation != 1 {
-        return 0;
-    }
-    if upper <= hedge {
-        return 0;
-    }
-    1
-}
-
-fn paid_row(accreditation: u32, hedge: u32, upper: u32) -> [u32; 5]
-    ensures { λ r. ⌜ r ≡ five (paidIn accreditation hedge upper) ⌝ }
-{
-    let p = paid(accreditation, hedge, upper);
-    [p, p, p, p, p]
 }
 
 // A step from its ends, uncapped prices and flags.

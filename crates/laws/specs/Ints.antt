@@ -8,7 +8,7 @@ use mathlib.Core.Bool.{Bool, true, false, cond}
 use lib.IntN.{ℤ, pos, negsuc, negℤ, subℕ, _+ℤ_, _-ℤ_, _*ℤ_}
 use lib.Signed.{ltZ, leZ, nonNeg}
 use lib.Dec.{ltb}
-use borrow.Author.Tests.{ltb-true, ltb-false, leb-true, leb-false, lt-ltb, le-ltb, le-leb, lt-leb}
+use borrow.Author.Tests.{ltb-true, ltb-false, leb-true, leb-false, le-ltb, le-leb}
 use Rattle.rules.specs.Payments.{maxZ}
 use Rattle.rules.specs.Totals.{minZ}
 
@@ -79,9 +79,6 @@ add-read x y = omega (arith, pl-add x y, mi-add x y)
 pub sub-read : (x y : ℤ) → pl (x -ℤ y) + (mi x + pl y) ≡ pl x + mi y + mi (x -ℤ y)
 sub-read x y = omega (arith, add-read x (negℤ y), pl-neg y, mi-neg y)
 
-neg-zero : (n : ℕ) → n ≡ 0 → negℤ (pos n) ≡ pos 0
-neg-zero n e = rw e
-
 pub pl-scale : (x : ℤ) (n : ℕ) → pl (x *ℤ pos n) ≡ pl x * n
 pl-scale (pos a) n = refl
 pl-scale (negsuc a) n = pl-neg (pos (suc a * n)) ∙ sym (zero-mul n)
@@ -109,30 +106,12 @@ ltZ-yes (pos a) (negsuc b) e = absurd (mathlib.Core.Bool.false≢true e)
 ltZ-yes (negsuc a) (pos b) e = omega arith
 ltZ-yes (negsuc a) (negsuc b) e = omega (arith, ltb-true b a e)
 
-pub ltZ-no : (x y : ℤ) → ltZ x y ≡ false → pl y + mi x ≤ pl x + mi y
-ltZ-no (pos a) (pos b) e = omega (arith, ltb-false a b e)
-ltZ-no (pos a) (negsuc b) e = omega arith
-ltZ-no (negsuc a) (pos b) e = absurd (mathlib.Core.Bool.true≢false e)
-ltZ-no (negsuc a) (negsuc b) e = omega (arith, ltb-false b a e)
-
 -- the tests from the facts
 pub le-leZ : (x y : ℤ) → pl x + mi y ≤ pl y + mi x → leZ x y ≡ true
 le-leZ (pos a) (pos b) h = le-leb a b (omega arith)
 le-leZ (pos a) (negsuc b) h = absurd (omega arith)
 le-leZ (negsuc a) (pos b) h = refl
 le-leZ (negsuc a) (negsuc b) h = le-leb b a (omega arith)
-
-pub lt-leZ : (x y : ℤ) → pl y + mi x < pl x + mi y → leZ x y ≡ false
-lt-leZ (pos a) (pos b) h = lt-leb a b (omega arith)
-lt-leZ (pos a) (negsuc b) h = refl
-lt-leZ (negsuc a) (pos b) h = absurd (omega arith)
-lt-leZ (negsuc a) (negsuc b) h = lt-leb b a (omega arith)
-
-pub lt-ltZ : (x y : ℤ) → pl x + mi y < pl y + mi x → ltZ x y ≡ true
-lt-ltZ (pos a) (pos b) h = lt-ltb a b (omega arith)
-lt-ltZ (pos a) (negsuc b) h = absurd (omega arith)
-lt-ltZ (negsuc a) (pos b) h = refl
-lt-ltZ (negsuc a) (negsuc b) h = lt-ltb b a (omega arith)
 
 pub le-ltZ : (x y : ℤ) → pl y + mi x ≤ pl x + mi y → ltZ x y ≡ false
 le-ltZ (pos a) (pos b) h = le-ltb a b (omega arith)

@@ -2,3 +2,4 @@
 pub mod Folds
 pub mod Ints
 pub mod Accepted
+pub mod Chains

@@ -1,11 +1,9 @@
 // One line's 660 bytes: refusals 6 to 13.
-pub mod bids;
-
-use bids::break_number;
-use bids::count_number;
-use bids::slots_number;
-use fields::count_of;
-use fields::sums::tail_number;
+use bid_breaks::break_number;
+use bid_breaks::count_number;
+use bid_breaks::count_of;
+use bid_prices::slots_number;
+use fields::tail_number;
 ghost use mathlib.Core.Path.{_≡_};
 ghost use Prim.Native.Nat.{_+_, _*_, _≤_};
 ghost use lib.ListN.{length};

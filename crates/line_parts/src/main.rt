@@ -19,9 +19,9 @@ fn print(v: u64) {
 }
 
 fn show(day: &[u8], k: usize) {
-    let part = day::line_part(day, k);
+    let part = header::line_part(day, k);
     io::print_decimal(1, wide(k));
-    print(long(day::line_part_number(day, k)));
+    print(long(header::line_part_number(day, k)));
     print(wide(part.len()));
     if part.len() > 3 {
         print(byte(part[0]));

@@ -17,14 +17,14 @@ use Rattle.rules.specs.Payments.{stepOf, ofSide}
 use Rattle.rules.specs.declared.Step.{Step}
 use Rattle.rules.specs.declared.Cut.{Cut}
 use Rattle.laws.specs.Accepted.{AcceptedDay, accepted-line, accepted-line-at}
-use Rattle.day.proofs.Laws.{line-length}
-use Rattle.cutter.specs.Sweep.{Line}
+use Rattle.header.proofs.Header.{line-length}
+use Rattle.sweep.specs.Sweep.{Line}
 use Rattle.cutter.specs.Ends.{count-most}
-use Rattle.payments.specs.Sizes.{Sized}
-use Rattle.payments.specs.Amounts.{moneyOf}
-use Rattle.finals.specs.Amounts.{stepPool, noPool, poolSum, Addable, MoneyAddable, finalOn, moneySum}
-use Rattle.payments.specs.declared.Money.{Money}
-use Rattle.finals.specs.declared.SidePool.{SidePool}
+use Rattle.amounts.specs.Sizes.{Sized}
+use Rattle.amounts.specs.Amounts.{moneyOf}
+use Rattle.pool_amounts.specs.Amounts.{stepPool, noPool, poolSum, Addable, MoneyAddable, finalOn, moneySum}
+use Rattle.amounts.specs.declared.Money.{Money}
+use Rattle.pool_amounts.specs.declared.SidePool.{SidePool}
 use Rattle.inputs.specs.declared.Market.{Market}
 use Rattle.inputs.specs.declared.LineTotals.{LineTotals}
 use Rattle.inputs.specs.Inputs.{marketOf, totalsOf, stepFrom, priceIn, flagIn}

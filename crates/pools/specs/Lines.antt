@@ -19,14 +19,14 @@ use Rattle.laws.specs.Accepted.{AcceptedDay}
 use Rattle.laws.specs.Folds.{sum-suc, sum-same, at-five}
 use Rattle.laws.specs.Ints.{pl, mi, Split, split-own, split-is}
 use Rattle.numbers.specs.Fives.{five-same, past-five}
-use Rattle.finals.specs.declared.SidePool.{SidePool}
-use Rattle.payments.specs.declared.Money.{Money}
-use Rattle.payments.specs.Kinds.{paid-most, taken-most}
-use Rattle.payments.specs.Parts.{changeOn}
-use Rattle.payments.specs.Amounts as amounts
-use Rattle.payments.specs.Amounts.{moneyOf, Signable, paymentOf}
-use Rattle.finals.specs.Amounts.{sumIn, noPool, finalOn, poolAt, InPool, MoneyAddable}
-use Rattle.finals.specs.Parts.{off-initial, money-same}
+use Rattle.pool_amounts.specs.declared.SidePool.{SidePool}
+use Rattle.amounts.specs.declared.Money.{Money}
+use Rattle.amounts.specs.Kinds.{paid-most, taken-most}
+use Rattle.amounts.specs.Parts.{changeOn}
+use Rattle.amounts.specs.Amounts as amounts
+use Rattle.amounts.specs.Amounts.{moneyOf, Signable, paymentOf}
+use Rattle.pool_amounts.specs.Amounts.{sumIn, noPool, finalOn, poolAt, InPool, MoneyAddable}
+use Rattle.pool_amounts.specs.Parts.{off-initial, money-same}
 use Rattle.inputs.specs.Paid.{scaled-most, sized}
 use Rattle.pools.specs.Sums.{placeOf, rowTo, poolTo, paidOf, takenOf, moneyTo, sum-split}
 use Rattle.pools.specs.Sides.{sidePool, stepAt, lineSum, pool-is}

@@ -13,10 +13,10 @@ use Rattle.rules.specs.Payments.{bit, revised, initial, stepOf, stepRevised, of
 use Rattle.rules.specs.declared.Step.{Step}
 use Rattle.laws.specs.Folds.{sum-same, sum-none, at-five}
 use Rattle.laws.specs.Ints.{pl, mi, Split, split-own, split-is, split-none}
-use Rattle.finals.specs.declared.SidePool.{SidePool}
-use Rattle.payments.specs.Parts.{changeOn}
-use Rattle.payments.specs.Amounts as amounts
-use Rattle.finals.specs.Amounts.{stepPool, poolAt, differsOn}
+use Rattle.pool_amounts.specs.declared.SidePool.{SidePool}
+use Rattle.amounts.specs.Parts.{changeOn}
+use Rattle.amounts.specs.Amounts as amounts
+use Rattle.pool_amounts.specs.Amounts.{stepPool, poolAt, differsOn}
 use Rattle.pools.specs.Sums.{placeOf, rowTo, plusOf, minusOf, risesOf, fallsOf, differsOf, poolTo, sum-split, some-sum}
 
 -- step j of line k, line k, and the lines of a side

@@ -17,12 +17,12 @@ use Rattle.laws.specs.Accepted.{AcceptedDay}
 use Rattle.laws.specs.Folds.{sum-le, sum-most, sum-term, sum-suc, at-five}
 use Rattle.numbers.specs.Fives.{past-five}
 use Rattle.cutter.specs.Ends.{count-most, most-limit}
-use Rattle.payments.specs.Sizes.{rate-most}
-use Rattle.payments.specs.Parts.{changeOn, initial-plus, revised-plus, revised-most}
-use Rattle.payments.specs.Kinds.{initial-most}
-use Rattle.finals.specs.Amounts.{sumIn, differsOn, Addable, InPool}
-use Rattle.finals.specs.Parts.{rise-le, fall-le}
-use Rattle.finals.specs.declared.SidePool.{SidePool}
+use Rattle.amounts.specs.Sizes.{rate-most}
+use Rattle.amounts.specs.Parts.{changeOn, initial-plus, revised-plus, revised-most}
+use Rattle.amounts.specs.Kinds.{initial-most}
+use Rattle.pool_amounts.specs.Amounts.{sumIn, differsOn, Addable, InPool}
+use Rattle.pool_amounts.specs.Parts.{rise-le, fall-le}
+use Rattle.pool_amounts.specs.declared.SidePool.{SidePool}
 use Rattle.inputs.specs.Paid.{scaled-most, sized, constrained-most, earlier-most, line}
 use Rattle.pools.specs.Sums.{rowTo, poolTo}
 use Rattle.pools.specs.Sides.{stepPoolAt, linePool, sidePart, sidePool, stepAt, lineSum, sideAt, sideSum, Row, paidIn, takenIn, plus-row, minus-row, rises-row, falls-row, differs-row, steps-place, part-place, lines-place, side-place}

@@ -11,9 +11,9 @@ use Rattle.rules.specs.Fold.{sumTo, sumZ, someTo, five, at}
 use Rattle.laws.specs.Folds.{sum-more, sum-suc, sum-none, sumZ-none, sumZ-suc, some-none, some-suc, same-five}
 use Rattle.laws.specs.Ints.{Split, split-none, split-add}
 use Rattle.numbers.specs.Fives.{five-is}
-use Rattle.finals.specs.declared.SidePool.{SidePool}
-use Rattle.payments.specs.declared.Money.{Money}
-use Rattle.finals.specs.Amounts.{sumIn, noPool, noMoney, poolSum, moneySum}
+use Rattle.pool_amounts.specs.declared.SidePool.{SidePool}
+use Rattle.amounts.specs.declared.Money.{Money}
+use Rattle.pool_amounts.specs.Amounts.{sumIn, noPool, noMoney, poolSum, moneySum}
 
 -- the sum over i below n of place s of row i
 unfoldable pub placeOf : (ℕ → List ℕ) → ℕ → ℕ → ℕ

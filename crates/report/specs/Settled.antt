@@ -4,7 +4,7 @@ use native.Mathlib.Omega.{arith}
 use native.Mathlib.Decide.{decLt}
 use mathlib.Core.Path.{_≡_, refl, sym, _∙_, ap}
 use mathlib.Core.List.{List, _++_, append-assoc}
-use lib.ListN.{length, getD, take, drop, take-append-drop, length-append, length-take, List·getD-eq-default}
+use lib.ListN.{length, getD, drop, length-append, length-take, List·getD-eq-default}
 use lib.Seq.{getD-take, getD-drop}
 use lib.IntN.{ℤ}
 use lib.Signed.{mag}
@@ -20,7 +20,7 @@ use Rattle.rules.specs.Book.{bookOf, bookAfter}
 use Rattle.rules.specs.Report.{totalText, adjustedText, numberAfter, fiveNumbers, paymentOf, lineText, settledText, refusedLine, reportText}
 use Rattle.laws.specs.Folds.{refuse-false, orElse-zero, orElse-suc}
 use Rattle.laws.specs.Accepted.{accepted-day}
-use Rattle.text.specs.Put.{joined-same}
+use Rattle.digits.specs.Put.{joined-same}
 use Rattle.text.specs.Lines.{lineTextOf, heading, totalsText, line-of}
 use Rattle.bookbytes.specs.Reading.{signedAt}
 use Rattle.bookbytes.specs.Framing.{totalAt, adjustedAt, entryAt, paymentAt, book-length, book-words, book-total, book-adjusted, entry-words, book-payment, after-settling}
@@ -105,13 +105,6 @@ module _ (d rest : List ℕ) (fits : InRange d) where
         five-equal (bookAdjusted book) (adjustedTotal d) adjusted-back,
       )
       (regroup (heading (lineCount d) ++ joined (lineCount d) (lineText d)) totalText (fiveNumbers (total d)) adjustedText (fiveNumbers (adjustedTotal d)))
-
--- the same, of a book whose first bytes are the day's book
-pub book-text : (d b : List ℕ) → InRange d → take (bookLength (lineCount d)) b ≡ bookOf d → bookText b ≡ settledText d
-book-text d b fits e =
-    let n = bookLength (lineCount d) in
-    let whole : b ≡ bookOf d ++ drop n b = sym (take-append-drop n b) ∙ ap (λ (t : List ℕ). t ++ drop n b) e in
-    ap bookText whole ∙ book-settled d (drop n b) fits
 
 -- the report of settling's number and book, where the book lent has room for 64 lines: the day's report
 module _ (d b : List ℕ) (lent : ℕ) (held : bookLength mostLines ≤ length b) (room : reportMost ≤ lent) where

@@ -5,7 +5,7 @@ ghost use lib.ListN.{length};
 ghost use Rattle.rules.specs.Fold.{joined, five};
 ghost use Rattle.rules.specs.Layout.{word};
 ghost use Rattle.rules.specs.Refusals.{bookLength};
-ghost use Rattle.text.specs.Put.{Written};
+ghost use Rattle.digits.specs.Put.{Written};
 ghost use Rattle.bookbytes.specs.Framing.{entryAt};
 ghost use Rattle.report.specs.BookText.{moneysAt, entryText, bookText, reportMost, reportOf};
 use bytes_le::signed_at;

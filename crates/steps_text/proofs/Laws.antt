@@ -1,8 +1,7 @@
 -- How the parts make up the text of a step, of a line and of a day.
 use Prim.Native.Nat.{ℕ, _+_, _≤_, _<_}
-use mathlib.Core.Path.{_≡_, ap}
+use mathlib.Core.Path.{_≡_}
 use mathlib.Core.List.{List, [], _++_}
-use lib.ListN.{length}
 use borrow.Author.Tests.{lt-ltb, le-ltb, eq-eqb, ne-eqb}
 use Rattle.rules.specs.Fold.{joined}
 use Rattle.rules.specs.Layout.{word, lineCount, lineAt}
@@ -11,18 +10,9 @@ use Rattle.rules.specs.Refusals.{dayFault}
 use Rattle.rules.specs.Viewing.{viewAnswer}
 use Rattle.rules.specs.Report.{decimal, space, lineFeed, refusedLine}
 use Rattle.rules.specs.declared.View.{View}
-use Rattle.text.specs.Lines.{words, lineIds, sideSteps}
-use Rattle.steps_text.specs.Text.{lineWord, quantitiesIn, paymentsIn, scheduleRow, viewText, stepText, lineHead, lineSteps, stepsPart, partMost, partOf}
-
--- the row of schedule s from its seven quantities
-pub seven : (v : View) (s : ℕ) {q : List ℕ} → q ≡ quantitiesIn v s → length q ≡ 7
-unfolding quantitiesIn
-seven v s e = ap length e
-
-pub row-is : (v : View) (s : ℕ) {q : List ℕ} → q ≡ quantitiesIn v s
-    → decimal (s + 1) ++ words q ++ paymentsIn v s ++ lineFeed ≡ scheduleRow v s
-unfolding scheduleRow
-row-is v s e = rw e
+use Rattle.text.specs.Lines.{lineIds, sideSteps}
+use Rattle.steps_text.specs.Text.{lineWord, stepText, lineHead, lineSteps, stepsPart, partMost, partOf}
+use Rattle.view_text.specs.ViewText.{viewText}
 
 -- a step from the view's answer
 pub step-is : (d : List ℕ) (k j : ℕ) {v : View} → v ≡ viewAnswer d k j → viewText j v ≡ stepText d k j

@@ -11,7 +11,7 @@ use Rattle.rules.specs.Refusals.{dayFault}
 use Rattle.rules.specs.Report.{refusedLine}
 use Rattle.laws.specs.Folds.{joined-none, joined-suc}
 use Rattle.laws.specs.Accepted.{accepted-day}
-use Rattle.text.specs.Put.{joined-same}
+use Rattle.digits.specs.Put.{joined-same}
 use Rattle.steps_text.specs.Text.{lineSteps, stepsText, stepsPart}
 
 -- lists of which all from n on are empty

@@ -1,132 +1,17 @@
 // Decimal numbers and the lines of the report (document 01, K10), written into lent bytes from a place on.
 // Each function answers the place after its text. `Written` of specs/ says what stands in the bytes then.
-ghost use mathlib.Core.Path.{_≡_};
-ghost use Prim.Native.Nat.{_+_, _*_, _≤_, _<_};
-ghost use mathlib.Core.List.{[], _∷_, _++_};
+use digits::put_byte;
+use digits::put_bytes;
+use digits::put_decimal;
+use number_rows::put_five;
+use number_rows::put_numbers;
+ghost use Prim.Native.Nat.{_+_, _≤_};
+ghost use mathlib.Core.List.{_++_};
 ghost use lib.ListN.{length};
 ghost use Rattle.rules.specs.Fold.{atZ};
-ghost use Rattle.rules.specs.Report.{decimal, signedDecimal, space, lineFeed, numberAfter, fiveNumbers, sideText, refusedLine};
-ghost use Rattle.text.specs.Put.{Written};
-ghost use Rattle.text.specs.Lines.{numbers, words, lineIds, sideSteps, lineStart, lineTextOf, heading, totalsText};
-use bytes_le::bits;
-use bytes_le::signed_at;
-use bytes_le::word_at;
-
-// One byte.
-pub fn put_byte(out: &mut [u8], at: usize, b: u8) -> usize
-    requires { ⌜ at + 1 ≤ length (now out) ⌝ }
-    ensures { λ r. ⌜ Written 1 (now (out .entry)) at (b ∷ []) r (now (out .exit)) ⌝ }
-{
-    out[at] = b;
-    at + 1
-}
-
-// A byte string.
-pub fn put_bytes(out: &mut [u8], at: usize, text: &[u8]) -> usize
-    requires { ⌜ at + length (now text) ≤ length (now out) ⌝ }
-    ensures { λ r. ⌜ Written (length (now (text .entry))) (now (out .entry)) at (now (text .entry)) r (now (out .exit)) ⌝ }
-{
-    let mut i = 0;
-    while i < text.len() {
-        out[at + i] = text[i];
-        i += 1;
-    }
-    at + i
-}
-
-// A number in decimal, of at most twenty digits.
-pub fn put_decimal(out: &mut [u8], at: usize, v: u64) -> usize
-    requires { ⌜ at + 20 ≤ length (now out) ⌝ }
-    ensures { λ r. ⌜ Written 20 (now (out .entry)) at (decimal v) r (now (out .exit)) ⌝ }
-{
-    if v < 10 {
-        return put_byte(out, at, 48 + v as u8);
-    }
-    let p = put_decimal(out, at, v / 10);
-    put_byte(out, p, 48 + (v % 10) as u8)
-}
-
-// A number with a minus sign before it where it is below 0, by its bits.
-pub fn put_signed(out: &mut [u8], at: usize, v: i64) -> usize
-    requires { ⌜ at + 21 ≤ length (now out) ⌝ }
-    ensures { λ r. ⌜ Written 21 (now (out .entry)) at (signedDecimal v) r (now (out .exit)) ⌝ }
-{
-    let n = bits(v);
-    if n < 9223372036854775808 {
-        return put_decimal(out, at, n);
-    }
-    let p = put_byte(out, at, b'-');
-    put_decimal(out, p, 18446744073709551615 - n + 1)
-}
-
-// A space and a number.
-pub fn put_unsigned(out: &mut [u8], at: usize, v: u64) -> usize
-    requires { ⌜ at + 21 ≤ length (now out) ⌝ }
-    ensures { λ r. ⌜ Written 21 (now (out .entry)) at (space ++ decimal v) r (now (out .exit)) ⌝ }
-{
-    let p = put_byte(out, at, b' ');
-    put_decimal(out, p, v)
-}
-
-fn wide(v: u32) -> u64
-    ensures { λ r. ⌜ r ≡ v ⌝ }
-{
-    v as u64
-}
-
-// Numbers, each after a space.
-pub fn put_words(out: &mut [u8], at: usize, v: &[u32]) -> usize
-    requires { ⌜ at + 21 * length (now v) ≤ length (now out) ⌝ }
-    ensures { λ r. ⌜ Written (21 * length (now (v .entry))) (now (out .entry)) at (words (now (v .entry))) r (now (out .exit)) ⌝ }
-{
-    let mut p = at;
-    let mut i = 0;
-    while i < v.len() {
-        p = put_unsigned(out, p, wide(v[i]));
-        i += 1;
-    }
-    p
-}
-
-// A space and a signed number.
-fn put_number(out: &mut [u8], at: usize, v: i64) -> usize
-    requires { ⌜ at + 22 ≤ length (now out) ⌝ }
-    ensures { λ r. ⌜ Written 22 (now (out .entry)) at (space ++ signedDecimal v) r (now (out .exit)) ⌝ }
-{
-    let p = put_byte(out, at, b' ');
-    put_signed(out, p, v)
-}
-
-// Of five numbers that of schedule s, after a space.
-pub fn put_number_in(out: &mut [u8], at: usize, v: [i64; 5], s: usize) -> usize
-    requires { ⌜ (s < 5) × (at + 22 ≤ length (now out)) ⌝ }
-    ensures { λ r. ⌜ Written 22 (now (out .entry)) at (numberAfter (atZ v) s) r (now (out .exit)) ⌝ }
-{
-    put_number(out, at, v[s])
-}
-
-// Five numbers, each after a space.
-pub fn put_numbers(out: &mut [u8], at: usize, v: [i64; 5]) -> usize
-    requires { ⌜ at + 110 ≤ length (now out) ⌝ }
-    ensures { λ r. ⌜ Written 110 (now (out .entry)) at (numbers (atZ v)) r (now (out .exit)) ⌝ }
-{
-    let mut p = at;
-    let mut s = 0;
-    while s < 5 {
-        p = put_number_in(out, p, v, s);
-        s += 1;
-    }
-    p
-}
-
-// Five numbers and the line's end.
-pub fn put_five(out: &mut [u8], at: usize, v: [i64; 5]) -> usize
-    requires { ⌜ at + 111 ≤ length (now out) ⌝ }
-    ensures { λ r. ⌜ Written 111 (now (out .entry)) at (fiveNumbers (atZ v)) r (now (out .exit)) ⌝ }
-{
-    let p = put_numbers(out, at, v);
-    put_byte(out, p, b'\n')
-}
+ghost use Rattle.rules.specs.Report.{decimal, space, lineFeed, sideText, refusedLine};
+ghost use Rattle.digits.specs.Put.{Written};
+ghost use Rattle.text.specs.Lines.{lineIds, sideSteps, lineStart, lineTextOf, heading, totalsText};
 
 // The text of a side.
 pub fn put_side(out: &mut [u8], at: usize, side: u32) -> usize

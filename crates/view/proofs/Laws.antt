@@ -16,9 +16,9 @@ use Rattle.rules.specs.declared.View.{View}
 use Rattle.rules.specs.declared.Cut.{Cut}
 use Rattle.numbers.specs.Fives.{five-same}
 use Rattle.cutter.specs.Arrays.{padded-at}
-use Rattle.finals.specs.declared.SidePool.{SidePool}
-use Rattle.finals.specs.Amounts.{finalOn, poolAt}
-use Rattle.finals.specs.Parts.{off-initial}
+use Rattle.pool_amounts.specs.declared.SidePool.{SidePool}
+use Rattle.pool_amounts.specs.Amounts.{finalOn, poolAt}
+use Rattle.pool_amounts.specs.Parts.{off-initial}
 use Rattle.pools.specs.Lines.{PoolFor}
 use Rattle.view.specs.Figures.{viewFrom, view-is}
 

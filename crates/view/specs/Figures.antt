@@ -17,8 +17,8 @@ use Rattle.rules.specs.declared.Step.{Step}
 use Rattle.rules.specs.declared.View.{View}
 use Rattle.laws.specs.Folds.{stops, passes, ends-at, none-at, part-stops, part-passes}
 use Rattle.numbers.specs.Fives.{five-same}
-use Rattle.finals.specs.declared.SidePool.{SidePool}
-use Rattle.finals.specs.Amounts.{finalOn}
+use Rattle.pool_amounts.specs.declared.SidePool.{SidePool}
+use Rattle.pool_amounts.specs.Amounts.{finalOn}
 use Rattle.pools.specs.Lines.{PoolFor, finalAt, final-is}
 
 unfoldable pub viewFrom : Step → ℕ → SidePool → View

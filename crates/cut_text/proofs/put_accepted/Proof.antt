@@ -3,7 +3,7 @@ use Prim.Native.Nat.{_+_, _*_}
 use mathlib.Core.Path.{refl}
 use borrow.Author.Needs.{needs}
 use Rattle.cut_text.specs.CutText.{textMost, steps-is}
-use Rattle.text.specs.Put.{then, written-as, written-wider}
+use Rattle.digits.specs.Put.{then, written-as, written-wider}
 use Rattle.cut_text.proofs.put_accepted.Statement.{statement}
 use Rattle.cut_text.proofs.put_accepted.Tie as tie
 

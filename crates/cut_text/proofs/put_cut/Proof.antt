@@ -2,7 +2,7 @@
 use native.Mathlib.Omega.{arith}
 use borrow.Author.Needs.{needs}
 use Rattle.cut_text.specs.CutText.{textMost, text-refused, text-steps}
-use Rattle.text.specs.Put.{written-as, written-wider}
+use Rattle.digits.specs.Put.{written-as, written-wider}
 use Rattle.cut_text.proofs.put_cut.Statement.{statement}
 use Rattle.cut_text.proofs.put_cut.Tie as tie
 

@@ -1,7 +1,7 @@
 -- `cut_text::put_line` meets its contract: an answer has at most 56 steps.
 use borrow.Author.Needs.{needs}
 use Rattle.cut_text.specs.CutText.{textMost, lent-short, lent-whole}
-use Rattle.text.specs.Put.{written-as, written-wider, written-nothing}
+use Rattle.digits.specs.Put.{written-as, written-wider, written-nothing}
 use Rattle.cutter.specs.Certificate.{answer-count}
 use Rattle.cut_text.proofs.put_line.Statement.{statement}
 use Rattle.cut_text.proofs.put_line.Tie as tie

@@ -1,6 +1,6 @@
 -- `cutter::cut` meets its contract.
 use borrow.Author.Needs.{needs}
-use Rattle.cutter.proofs.Moves.{cut-short, cut-refused, cut-line, cut-whole}
+use Rattle.cutter.proofs.Answers.{cut-short, cut-refused, cut-line, cut-whole}
 use Rattle.cutter.proofs.cut.Statement.{statement}
 use Rattle.cutter.proofs.cut.Tie as tie
 use Rattle.cutter.proofs.cut.Reads as reads

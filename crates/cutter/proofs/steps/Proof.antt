@@ -9,11 +9,11 @@ use Rattle.cutter.proofs.steps.Tie as tie
 use Rattle.cutter.proofs.steps.Reads as reads
 use Rattle.cutter.proofs.steps.Lts as lts
 use Rattle.bytes_le.proofs.word_at.Reads as word-at-reads
-use Rattle.cutter.proofs.marked.Reads as marked-reads
-use Rattle.cutter.proofs.next_gap.Reads as next-gap-reads
-use Rattle.cutter.proofs.passed.Reads as passed-reads
-use Rattle.cutter.proofs.put_prices.Reads as put-prices-reads
-use Rattle.cutter.proofs.start.Reads as start-reads
+use Rattle.step_prices.proofs.marked.Reads as marked-reads
+use Rattle.sweep.proofs.next_gap.Reads as next-gap-reads
+use Rattle.sweep.proofs.passed.Reads as passed-reads
+use Rattle.step_prices.proofs.put_prices.Reads as put-prices-reads
+use Rattle.sweep.proofs.start.Reads as start-reads
 
 abbrev Inv-loop : tie.InvT-loop
 Inv-loop line hedge ends₀ prices₀ words₀ at₀ end₀ far₀ n₀ ends prices words at end far n = Swept line n at end far ends prices words

@@ -3,7 +3,7 @@ use denote.Ref.{now}
 use native.Mathlib.Omega.{arith}
 use borrow.Author.Needs.{needs}
 use Rattle.rules.specs.Fold.{before}
-use Rattle.text.specs.Put.{written-as}
+use Rattle.digits.specs.Put.{written-as}
 use Rattle.day_report.specs.Range.{day-report-is}
 use Rattle.day_report.proofs.day_report.Statement.{statement}
 use Rattle.day_report.proofs.day_report.Tie as tie

@@ -1,7 +1,7 @@
 -- `finals::bases` meets its contract.
 use borrow.Author.Needs.{needs}
 use Rattle.numbers.specs.Fives.{five-is}
-use Rattle.finals.specs.Amounts.{baseIn}
+use Rattle.pool_amounts.specs.Amounts.{baseIn}
 use Rattle.finals.proofs.bases.Statement.{statement}
 use Rattle.finals.proofs.bases.Tie as tie
 

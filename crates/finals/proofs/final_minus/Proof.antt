@@ -2,7 +2,7 @@
 use native.Mathlib.Omega.{arith}
 use borrow.Author.Needs.{needs}
 use Rattle.numbers.specs.Fives.{five-is}
-use Rattle.finals.specs.Amounts.{takenIn}
+use Rattle.pool_amounts.specs.Amounts.{takenIn}
 use Rattle.finals.proofs.final_minus.Statement.{statement}
 use Rattle.finals.proofs.final_minus.Tie as tie
 

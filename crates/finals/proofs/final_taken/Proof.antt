@@ -1,7 +1,7 @@
 -- `finals::final_taken` meets its contract: row by row.
 use borrow.Author.Needs.{needs}
 use Rattle.rules.specs.Totals.{totals}
-use Rattle.finals.proofs.Settling.{of-falls, of-minus, final-row, sharing}
+use Rattle.pool_amounts.proofs.Settling.{of-falls, of-minus, final-row, sharing}
 use Rattle.matching.specs.Ledgers.{matchRow}
 use Rattle.finals.proofs.final_taken.Statement.{statement}
 use Rattle.finals.proofs.final_taken.Tie as tie

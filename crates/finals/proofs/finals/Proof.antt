@@ -1,8 +1,8 @@
 -- `finals::finals` meets its contract.
 use borrow.Author.Needs.{needs}
-use Rattle.payments.specs.Kinds.{final-within}
-use Rattle.finals.specs.Amounts.{finalOn, poolAt}
-use Rattle.payments.proofs.Signing.{signable, money-back}
+use Rattle.amounts.specs.Kinds.{final-within}
+use Rattle.pool_amounts.specs.Amounts.{finalOn, poolAt}
+use Rattle.amounts.proofs.Signing.{signable, money-back}
 use Rattle.finals.proofs.finals.Statement.{statement}
 use Rattle.finals.proofs.finals.Tie as tie
 

@@ -2,9 +2,9 @@
 use mathlib.Core.Path.{_∙_}
 use Rattle.rules.specs.Matching.{rise, fall}
 use Rattle.matching.specs.Ledgers.{matchRow}
-use Rattle.payments.specs.Amounts.{moneyOf}
-use Rattle.payments.proofs.Joining.{change-row, plus-row, minus-row}
-use Rattle.finals.proofs.Settling.{sharing, final-row, final-pays}
+use Rattle.amounts.specs.Amounts.{moneyOf}
+use Rattle.amounts.proofs.Joining.{change-row, plus-row, minus-row}
+use Rattle.pool_amounts.proofs.Settling.{sharing, final-row, final-pays}
 use Rattle.finals.proofs.full_money.Statement.{statement}
 use Rattle.finals.proofs.full_money.Tie as tie
 

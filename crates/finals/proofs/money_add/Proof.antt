@@ -1,5 +1,5 @@
 -- `finals::money_add` meets its contract.
-use Rattle.finals.specs.Amounts.{moneySum}
+use Rattle.pool_amounts.specs.Amounts.{moneySum}
 use Rattle.finals.proofs.money_add.Statement.{statement}
 use Rattle.finals.proofs.money_add.Tie as tie
 

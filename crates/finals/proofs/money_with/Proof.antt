@@ -1,10 +1,10 @@
 -- `finals::money_with` meets its contract: by whether the step is paid anything, clawback, and whether it takes something back.
 use mathlib.Core.Path.{sym, _∙_, ap, subst}
 use borrow.Author.Needs.{needs}
-use Rattle.finals.specs.Amounts.{moneySum, MoneyAddable}
-use Rattle.finals.proofs.Kept.{kept-row}
-use Rattle.finals.proofs.Idle.{idle-unpaid, idle-unconstrained, money-idle, taken-money, kept-money, off-money}
-use Rattle.finals.proofs.Settling.{of-minus}
+use Rattle.pool_amounts.specs.Amounts.{moneySum, MoneyAddable}
+use Rattle.pool_amounts.proofs.Kept.{kept-row}
+use Rattle.pool_amounts.proofs.Idle.{idle-unpaid, idle-unconstrained, money-idle, taken-money, kept-money, off-money}
+use Rattle.pool_amounts.proofs.Settling.{of-minus}
 use Rattle.finals.proofs.money_with.Statement.{statement}
 use Rattle.finals.proofs.money_with.Tie as tie
 

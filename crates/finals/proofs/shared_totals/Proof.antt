@@ -1,7 +1,7 @@
 -- `finals::shared_totals` meets its contract.
 use borrow.Author.Needs.{needs}
 use Rattle.numbers.specs.Fives.{five-is}
-use Rattle.finals.specs.Amounts.{totalIn}
+use Rattle.pool_amounts.specs.Amounts.{totalIn}
 use Rattle.finals.proofs.shared_totals.Statement.{statement}
 use Rattle.finals.proofs.shared_totals.Tie as tie
 

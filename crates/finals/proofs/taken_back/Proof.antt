@@ -2,7 +2,7 @@
 use native.Mathlib.Omega.{arith}
 use borrow.Author.Tests.{eq-eqb, ne-eqb, lt-ltb}
 use Rattle.numbers.specs.Shares.{share-most}
-use Rattle.payments.specs.Parts.{takenBack}
+use Rattle.amounts.specs.Parts.{takenBack}
 use Rattle.finals.proofs.taken_back.Statement.{statement}
 use Rattle.finals.proofs.taken_back.Tie as tie
 

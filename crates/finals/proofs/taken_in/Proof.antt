@@ -1,7 +1,7 @@
 -- `finals::taken_in` meets its contract.
 use borrow.Author.Needs.{needs}
 use borrow.Author.Tests.{eq-eqb, ne-eqb}
-use Rattle.finals.specs.Amounts.{takenIn}
+use Rattle.pool_amounts.specs.Amounts.{takenIn}
 use Rattle.finals.proofs.taken_in.Statement.{statement}
 use Rattle.finals.proofs.taken_in.Tie as tie
 

@@ -1,7 +1,7 @@
 -- `payments::initial` meets its contract.
 use Rattle.rules.specs.Payments.{initial}
-use Rattle.payments.specs.Kinds.{initial-within}
-use Rattle.payments.proofs.Signing.{signable, money-back}
+use Rattle.amounts.specs.Kinds.{initial-within}
+use Rattle.amounts.proofs.Signing.{signable, money-back}
 use Rattle.payments.proofs.initial.Statement.{statement}
 use Rattle.payments.proofs.initial.Tie as tie
 

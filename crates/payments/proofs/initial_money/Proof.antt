@@ -1,8 +1,8 @@
 -- `payments::initial_money` meets its contract.
 use borrow.Author.Needs.{needs}
 use Rattle.rules.specs.Matching.{rise, fall}
-use Rattle.payments.specs.Amounts.{moneyOf}
-use Rattle.payments.proofs.Joining.{change-row, plus-row, minus-row}
+use Rattle.amounts.specs.Amounts.{moneyOf}
+use Rattle.amounts.proofs.Joining.{change-row, plus-row, minus-row}
 use Rattle.payments.proofs.initial_money.Statement.{statement}
 use Rattle.payments.proofs.initial_money.Tie as tie
 

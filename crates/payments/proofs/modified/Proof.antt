@@ -1,8 +1,8 @@
 -- `payments::modified` meets its contract.
 use borrow.Author.Needs.{needs}
 use Rattle.rules.specs.Payments.{modified}
-use Rattle.payments.specs.Kinds.{modified-within}
-use Rattle.payments.proofs.Signing.{signable, money-back}
+use Rattle.amounts.specs.Kinds.{modified-within}
+use Rattle.amounts.proofs.Signing.{signable, money-back}
 use Rattle.payments.proofs.modified.Statement.{statement}
 use Rattle.payments.proofs.modified.Tie as tie
 

@@ -2,9 +2,9 @@
 use borrow.Author.Needs.{needs}
 use mathlib.Core.Path.{_∙_, ap}
 use Rattle.matching.specs.Ledgers.{matchRow}
-use Rattle.payments.specs.declared.Money.{Money}
-use Rattle.payments.specs.Amounts.{moneyOf}
-use Rattle.payments.proofs.Joining.{modified-pays}
+use Rattle.amounts.specs.declared.Money.{Money}
+use Rattle.amounts.specs.Amounts.{moneyOf}
+use Rattle.amounts.proofs.Joining.{modified-pays}
 use Rattle.payments.proofs.modified_money.Statement.{statement}
 use Rattle.payments.proofs.modified_money.Tie as tie
 

@@ -1,8 +1,8 @@
 -- `payments::revised` meets its contract.
 use borrow.Author.Needs.{needs}
 use Rattle.rules.specs.Payments.{revised}
-use Rattle.payments.specs.Kinds.{revised-within}
-use Rattle.payments.proofs.Signing.{signable, money-back}
+use Rattle.amounts.specs.Kinds.{revised-within}
+use Rattle.amounts.proofs.Signing.{signable, money-back}
 use Rattle.payments.proofs.revised.Statement.{statement}
 use Rattle.payments.proofs.revised.Tie as tie
 

@@ -1,10 +1,10 @@
 -- `payments::revised_money` meets its contract.
 use mathlib.Core.Path.{_∙_, ap}
 use borrow.Author.Needs.{needs}
-use Rattle.payments.specs.Amounts.{moneyOf}
-use Rattle.payments.proofs.Joining.{revised-pays}
+use Rattle.amounts.specs.Amounts.{moneyOf}
+use Rattle.amounts.proofs.Joining.{revised-pays}
 use Rattle.matching.specs.Ledgers.{matchRow}
-use Rattle.payments.specs.declared.Money.{Money}
+use Rattle.amounts.specs.declared.Money.{Money}
 use Rattle.payments.proofs.revised_money.Statement.{statement}
 use Rattle.payments.proofs.revised_money.Tie as tie
 

@@ -4,7 +4,7 @@ use mathlib.Core.Path.{_∙_}
 use mir.Syntax.{w64}
 use mir.ValLaws.{toZ-ofZ}
 use Rattle.numbers.specs.Fives.{five-is}
-use Rattle.payments.specs.Amounts.{paymentOf}
+use Rattle.amounts.specs.Amounts.{paymentOf}
 use Rattle.payments.proofs.signed_money.Statement.{statement}
 use Rattle.payments.proofs.signed_money.Tie as tie
 

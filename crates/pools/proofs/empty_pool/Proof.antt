@@ -1,6 +1,6 @@
 -- `pools::empty_pool` meets its contract.
 use mathlib.Core.Path.{refl}
-use Rattle.finals.specs.Amounts.{noPool}
+use Rattle.pool_amounts.specs.Amounts.{noPool}
 use Rattle.pools.proofs.empty_pool.Statement.{statement}
 use Rattle.pools.proofs.empty_pool.Tie as tie
 

@@ -2,7 +2,7 @@
 use borrow.Author.Needs.{needs}
 use Prim.Native.Nat.{_+_, _*_}
 use denote.Ref.{now}
-use Rattle.text.specs.Put.{then, written-as, written-wider}
+use Rattle.digits.specs.Put.{then, written-as, written-wider}
 use Rattle.report.specs.BookText.{reportMost, book-is}
 use Rattle.report.proofs.put_book.Statement.{statement}
 use Rattle.report.proofs.put_book.Tie as tie

@@ -5,7 +5,7 @@ use Prim.Native.Nat.{_*_, _-_, _≤_}
 use mathlib.Core.Path.{_≡_}
 use lib.ListN.{length}
 use Rattle.rules.specs.Fold.{joined}
-use Rattle.text.specs.Put.{Written, row-none, row-more}
+use Rattle.digits.specs.Put.{Written, row-none, row-more}
 use Rattle.report.specs.BookText.{entryText}
 use Rattle.report.proofs.put_entries.Statement.{statement}
 use Rattle.report.proofs.put_entries.Tie as tie

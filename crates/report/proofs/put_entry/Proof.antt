@@ -1,7 +1,7 @@
 -- `report::put_entry` meets its contract: what is read is the entry, and the line is put.
 use borrow.Author.Needs.{needs}
 use denote.Ref.{now}
-use Rattle.text.specs.Put.{written-as}
+use Rattle.digits.specs.Put.{written-as}
 use Rattle.report.specs.BookText.{entry-is}
 use Rattle.report.proofs.put_entry.Statement.{statement}
 use Rattle.report.proofs.put_entry.Tie as tie

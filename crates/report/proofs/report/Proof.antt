@@ -1,6 +1,6 @@
 -- `report::report` meets its contract: by its cases.
 use borrow.Author.Needs.{needs}
-use Rattle.text.specs.Put.{written-as, written-wider, written-nothing}
+use Rattle.digits.specs.Put.{written-as, written-wider, written-nothing}
 use Rattle.report.specs.BookText.{reportMost, report-short, report-refused, report-many, report-none, report-book}
 use Rattle.report.proofs.report.Statement.{statement}
 use Rattle.report.proofs.report.Tie as tie

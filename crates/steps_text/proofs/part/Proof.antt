@@ -4,7 +4,7 @@ use denote.Ref.{now}
 use native.Mathlib.Omega.{arith}
 use borrow.Author.Needs.{needs}
 use Rattle.laws.specs.Accepted.{accepted-day}
-use Rattle.text.specs.Put.{written-as, written-wider, written-nothing}
+use Rattle.digits.specs.Put.{written-as, written-wider, written-nothing}
 use Rattle.steps_text.proofs.Laws.{part-short, part-refused, part-after, part-none, part-line}
 use Rattle.steps_text.proofs.part.Statement.{statement}
 use Rattle.steps_text.proofs.part.Tie as tie

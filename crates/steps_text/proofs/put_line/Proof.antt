@@ -5,7 +5,7 @@ use native.Mathlib.Omega.{arith}
 use borrow.Author.Needs.{needs}
 use Rattle.rules.specs.Steps.{stepCount}
 use Rattle.steps_text.proofs.Laws.{line-is}
-use Rattle.text.specs.Put.{then, written-as, written-wider}
+use Rattle.digits.specs.Put.{then, written-as, written-wider}
 use Rattle.pools.proofs.Laws.{line-lies, lent-length, lent-line, count-is, count-few}
 use Rattle.steps_text.proofs.put_line.Statement.{statement}
 use Rattle.steps_text.proofs.put_line.Tie as tie

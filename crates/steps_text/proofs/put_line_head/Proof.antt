@@ -1,7 +1,7 @@
 -- `steps_text::put_line_head` meets its contract: the texts that its calls put, one after another.
 use denote.Ref.{now}
 use borrow.Author.Needs.{needs}
-use Rattle.text.specs.Put.{then, written-as}
+use Rattle.digits.specs.Put.{then, written-as}
 use Rattle.steps_text.proofs.Laws.{head-is}
 use Rattle.steps_text.proofs.put_line_head.Statement.{statement}
 use Rattle.steps_text.proofs.put_line_head.Tie as tie

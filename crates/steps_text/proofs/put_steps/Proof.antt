@@ -6,7 +6,7 @@ use denote.Ref.{now}
 use native.Mathlib.Omega.{arith}
 use borrow.Author.Needs.{needs}
 use Rattle.rules.specs.Fold.{joined}
-use Rattle.text.specs.Put.{Written, written-as, row-none, row-more}
+use Rattle.digits.specs.Put.{Written, written-as, row-none, row-more}
 use Rattle.steps_text.specs.Text.{stepText}
 use Rattle.steps_text.proofs.Laws.{step-is}
 use Rattle.steps_text.proofs.put_steps.Statement.{statement}

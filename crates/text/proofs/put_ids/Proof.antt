@@ -1,6 +1,6 @@
 -- `text::put_ids` meets its contract: the texts that its calls put, one after another.
 use borrow.Author.Needs.{needs}
-use Rattle.text.specs.Put.{then}
+use Rattle.digits.specs.Put.{then}
 use Rattle.text.specs.Lines.{lineIds}
 use Rattle.text.proofs.put_ids.Statement.{statement}
 use Rattle.text.proofs.put_ids.Tie as tie

@@ -1,6 +1,6 @@
 -- `text::put_line` meets its contract: the line without its end, and then the line feed.
 use borrow.Author.Needs.{needs}
-use Rattle.text.specs.Put.{then, written-as}
+use Rattle.digits.specs.Put.{then, written-as}
 use Rattle.text.specs.Lines.{line-is}
 use Rattle.text.proofs.put_line.Statement.{statement}
 use Rattle.text.proofs.put_line.Tie as tie

@@ -1,6 +1,6 @@
 -- `text::put_line_start` meets its contract: the texts that its calls put, one after another.
 use borrow.Author.Needs.{needs}
-use Rattle.text.specs.Put.{then}
+use Rattle.digits.specs.Put.{then}
 use Rattle.text.specs.Lines.{lineStart}
 use Rattle.text.proofs.put_line_start.Statement.{statement}
 use Rattle.text.proofs.put_line_start.Tie as tie

@@ -1,6 +1,6 @@
 -- `text::put_numbered` meets its contract: the texts that its calls put, one after another.
 use borrow.Author.Needs.{needs}
-use Rattle.text.specs.Put.{then}
+use Rattle.digits.specs.Put.{then}
 use Rattle.text.proofs.put_numbered.Statement.{statement}
 use Rattle.text.proofs.put_numbered.Tie as tie
 

@@ -1,6 +1,6 @@
 -- `text::put_side` meets its contract: by the side.
 use borrow.Author.Needs.{needs}
-use Rattle.text.specs.Put.{written-as}
+use Rattle.digits.specs.Put.{written-as}
 use Rattle.text.specs.Lines.{side-withdrawal, side-injection}
 use Rattle.text.proofs.put_side.Statement.{statement}
 use Rattle.text.proofs.put_side.Tie as tie

@@ -3,7 +3,7 @@ use denote.Ref.{now}
 use native.Mathlib.Omega.{arith}
 use borrow.Author.Needs.{needs}
 use Rattle.capi.specs.Parts.{part-none, part-some}
-use Rattle.day.proofs.Laws.{part-bounds}
+use Rattle.header.proofs.Header.{part-bounds}
 use Rattle.capi.proofs.part.mewikofu_line_part.Statement.{statement}
 use Rattle.capi.proofs.part.mewikofu_line_part.Tie as tie
 

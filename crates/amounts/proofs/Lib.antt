@@ -1,0 +1,3 @@
+-- Laws that proofs of functions cite.
+pub mod Joining
+pub mod Signing

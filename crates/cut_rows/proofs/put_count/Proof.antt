@@ -1,0 +1,21 @@
+-- `cut_rows::put_count` meets its contract: the texts that its calls put, one after another.
+use borrow.Author.Needs.{needs}
+use Rattle.cut_rows.specs.CutRows.{countText}
+use Rattle.digits.specs.Put.{then}
+use Rattle.cut_rows.proofs.put_count.Statement.{statement}
+use Rattle.cut_rows.proofs.put_count.Tie as tie
+
+returns : tie.Need-returns
+unfolding countText
+returns c = then (then (c .before .before .before .before .before .before .before .before .before .before .put-bytes .ensures) (c .before .before .before .before .before .before .put-decimal .ensures)) (c .before .before .put-byte .ensures)
+
+pub put-count-spec : {M : Type 1} → statement M
+put-count-spec =
+    tie.close
+    (tie.spec
+    (λ c. search needs)
+    (λ c κs. search needs)
+    (λ c κs. search needs)
+    (λ c κs. search needs)
+    (λ c. search needs)
+    returns)

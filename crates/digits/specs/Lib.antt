@@ -1,0 +1,4 @@
+-- Definitions and the laws on them.
+pub mod Put
+pub mod Digits
+pub mod Signed

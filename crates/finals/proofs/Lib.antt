@@ -1,4 +1,0 @@
--- Laws that the proofs of `finals` cite.
-pub mod Settling
-pub mod Kept
-pub mod Idle

@@ -1,0 +1,3 @@
+-- Definitions and the laws on them.
+pub mod Amounts
+pub mod Parts

@@ -1,2 +1,0 @@
--- Laws that the proofs of `quantities` cite.
-pub mod Chains

@@ -1,0 +1,23 @@
+-- `skipped_steps::none` meets its contract: the greatest of the five is 0.
+use borrow.Author.Needs.{needs}
+use Rattle.pool_amounts.proofs.Kept.{none-is}
+use Rattle.skipped_steps.proofs.none.Statement.{statement}
+use Rattle.skipped_steps.proofs.none.Tie as tie
+
+returns : tie.Need-returns
+returns c = none-is _ _ _ _ _ (c .before .before .before .greater64 .ensures) (c .before .before .greater642 .ensures) (c .before .greater643 .ensures) (c .greater644 .ensures)
+
+pub none-spec : {M : Type 1} → statement M
+none-spec =
+    tie.close
+    (tie.spec
+    (λ c. search needs)
+    (λ c. search needs)
+    (λ c κs. search needs)
+    (λ c. search needs)
+    (λ c κs. search needs)
+    (λ c. search needs)
+    (λ c κs. search needs)
+    (λ c. search needs)
+    (λ c κs. search needs)
+    returns)

@@ -1,0 +1,16 @@
+-- `step_prices::with_flag` meets its contract.
+use borrow.Author.Needs.{needs}
+use Rattle.sweep.proofs.Moves.{flag-put}
+use Rattle.step_prices.proofs.with_flag.Statement.{statement}
+use Rattle.step_prices.proofs.with_flag.Tie as tie
+use Rattle.step_prices.proofs.with_flag.Reads as reads
+use Rattle.step_prices.proofs.with_flag.Lts as lts
+
+shl-result : tie.Need-shl-result
+shl-result c = search needs
+
+returns : tie.Need-returns
+returns c = flag-put _ _ _ (c .pre)
+
+pub with-flag-spec : {M : Type 1} → statement M
+with-flag-spec = tie.close (tie.spec shl-result returns)
