@@ -3,7 +3,6 @@ use numbers::less;
 use numbers::lesser;
 use rules::Step;
 ghost use mathlib.Core.Path.{_≡_};
-ghost use Prim.Native.Nat.{_-_};
 ghost use Rattle.rules.specs.Fold.{five};
 ghost use Rattle.rules.specs.Quantities as rule;
 ghost use Rattle.rules.specs.Payments as paper;

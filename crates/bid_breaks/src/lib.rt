@@ -2,9 +2,9 @@
 use kinds::Quantity;
 use kinds::QuantityRead;
 ghost use mathlib.Core.Path.{_≡_};
-ghost use Prim.Native.Nat.{_+_, _-_, _<_};
+ghost use Prim.Native.Nat.{_<_};
 ghost use lib.ListN.{length};
-ghost use Rattle.rules.specs.Fold.{first, before};
+ghost use Rattle.rules.specs.Fold.{before};
 ghost use Rattle.rules.specs.Layout.{bidCount, bidBreak};
 ghost use Rattle.rules.specs.Refusals.{breakFault};
 ghost use Rattle.bid_breaks.specs.Counts.{countFault};

@@ -1,9 +1,9 @@
-// A bid's prices and its unused slots: rows 9 and 10 of the refusals.
+// A bid's prices: row 9 of the refusals, and rows 9 and 10 one after the other.
 use kinds::Price;
 use kinds::PriceRead;
 use unused_slots::unused_number;
 ghost use mathlib.Core.Path.{_≡_};
-ghost use Prim.Native.Nat.{_+_, _-_, _≤_, _<_};
+ghost use Prim.Native.Nat.{_≤_, _<_};
 ghost use lib.ListN.{length};
 ghost use Rattle.rules.specs.Fold.{first};
 ghost use Rattle.rules.specs.Layout.{side, bidCount};

@@ -1,6 +1,6 @@
 // The parts of a book (document 01, "Totals and book") written into lent bytes from a place on.
 // Each function answers the place after its part. `Written` of text/specs says what stands in the bytes then.
-ghost use Prim.Native.Nat.{_+_, _*_, _≤_};
+ghost use Prim.Native.Nat.{_+_, _≤_};
 ghost use mathlib.Core.List.{_++_};
 ghost use lib.ListN.{length};
 ghost use Rattle.rules.specs.Fold.{joined, atZ};

@@ -18,7 +18,7 @@ use Rattle.rules.specs.declared.View.{View}
 use Rattle.rules.specs.declared.Cut.{Cut}
 use Rattle.laws.specs.Folds.{orElse-both, refuse-zero, refuse-false}
 use Rattle.laws.specs.Accepted.{accepted-day, accepted-line-at}
-use Rattle.cutter.specs.Ends.{count-most}
+use Rattle.cut_steps.specs.Ends.{count-most}
 use Rattle.cutter.specs.Certificate.{endAt}
 use Rattle.certificate.specs.Certificate.{Certified}
 use Rattle.certificate.specs.Answers.{cut-whole}

@@ -1,4 +1,4 @@
-// The day file: header, market table and all lines, refusals 1 to 5 and 14, and the lent line.
+// The day file: its number, from the header, the market table, the lines and their keys.
 use header::header_number;
 use header::line_count;
 use keys::keys_number;

@@ -16,7 +16,7 @@ use Rattle.rules.specs.Book.{bookAfter}
 use Rattle.rules.specs.Report.{reportText}
 use Rattle.laws.specs.Accepted.{AcceptedDay, accepted-day, accepted-line-at}
 use Rattle.laws.specs.Folds.{at-five}
-use Rattle.cutter.specs.Ends.{count-most}
+use Rattle.cut_steps.specs.Ends.{count-most}
 use Rattle.inputs.specs.Paid.{payment-size}
 use Rattle.totals.specs.Sizes.{Bounded, size, mag-size, adjusted-size}
 use Rattle.book_lines.specs.Sums.{day-bounded}

@@ -1,5 +1,5 @@
 // The settling program's report of a day, written into lent bytes (document 01, K10).
-ghost use Prim.Native.Nat.{_≤_};
+
 ghost use mathlib.Core.List.{[]};
 ghost use mathlib.Core.Bool.{cond};
 ghost use lib.Dec.{ltb};

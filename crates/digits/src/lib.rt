@@ -1,7 +1,7 @@
 // Bytes and decimal numbers, written into lent bytes from a place on. Each function answers the place after its text.
 // `Written` of specs/ says what stands in the bytes then.
 use bytes_le::bits;
-ghost use Prim.Native.Nat.{_+_, _≤_, _<_};
+ghost use Prim.Native.Nat.{_+_, _≤_};
 ghost use mathlib.Core.List.{[], _∷_, _++_};
 ghost use lib.ListN.{length};
 ghost use Rattle.rules.specs.Report.{decimal, signedDecimal, space};

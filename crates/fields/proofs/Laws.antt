@@ -1,4 +1,4 @@
--- What reading a kind finds, a line's sums, and rows 11 to 13, from what the code has read.
+-- M, and row 12 with the totals that were worked out.
 use Prim.Native.Nat.{ℕ, zero, suc, _-_, _<_, max}
 use native.Mathlib.Nat.{zero-max}
 use native.Mathlib.Omega.{arith}

@@ -1,2 +1,2 @@
--- What reading a kind finds, and the parts in which a line's sums and rows 11 to 13 are worked out.
+-- Rows 11 to 13 of a line's refusals as one definition.
 pub mod Parts

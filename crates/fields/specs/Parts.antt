@@ -1,4 +1,4 @@
--- Rows 11 to 13 of a line's refusals, and its sums, in the parts that the code works out one by one.
+-- Rows 11 to 13 of a line's refusals, one after another.
 use Prim.Native.Nat.{ℕ}
 use mathlib.Core.List.{List}
 use Rattle.rules.specs.Fold.{_orElse_, first}

@@ -9,7 +9,7 @@ use tail_rows::actuals_number;
 use tail_rows::hedge_number;
 use tail_rows::totals_number;
 ghost use mathlib.Core.Path.{_≡_};
-ghost use Prim.Native.Nat.{_+_, _*_, _<_};
+ghost use Prim.Native.Nat.{_<_};
 ghost use lib.ListN.{length};
 ghost use Rattle.rules.specs.Fold.{first};
 ghost use Rattle.rules.specs.Steps.{bidMost, greatestBreak};

@@ -1,4 +1,4 @@
-// Document 01, "Payments": the pool of a side, and the final payments of one step, which are worked out from it.
+// Document 01, "Payments": the final payments of one step, which are worked out from the pool of its side.
 use amounts::Money;
 use changes::falls;
 use changes::only_paid;
@@ -25,7 +25,7 @@ use skipped_steps::unconstrained;
 use skipped_steps::unpaid;
 ghost use mathlib.Core.Path.{_≡_};
 ghost use mathlib.Core.Bool.{cond};
-ghost use Prim.Native.Nat.{ℕ, _+_, _-_, _<_};
+ghost use Prim.Native.Nat.{ℕ, _-_, _<_};
 ghost use lib.Dec.{eqb};
 ghost use Rattle.rules.specs.Fold.{five, at};
 ghost use Rattle.rules.specs.Payments as paper;

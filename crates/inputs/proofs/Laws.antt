@@ -16,8 +16,8 @@ use Rattle.laws.specs.Folds.{same-five, at-five}
 use Rattle.laws.specs.Accepted.{accepted-line}
 use Rattle.sums.specs.Sums.{tableTotal, lesserSum, lesserAt}
 use Rattle.sums.proofs.Totals.{table-total}
-use Rattle.cutter.specs.Arrays.{bitAt}
-use Rattle.cutter.specs.Ends.{most-limit}
+use Rattle.cut_steps.specs.Arrays.{bitAt}
+use Rattle.cut_steps.specs.Ends.{most-limit}
 use Rattle.inputs.specs.declared.Market.{Market}
 use Rattle.inputs.specs.declared.LineTotals.{LineTotals}
 use Rattle.inputs.specs.Inputs.{wordIn, marketOf, totalsOf, stepFrom}

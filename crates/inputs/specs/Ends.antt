@@ -8,8 +8,8 @@ use Rattle.rules.specs.Quantities.{allocated}
 use Rattle.rules.specs.Steps.{greatestBreak, ends, stepCount, upperEnd, lowerEnd, width}
 use Rattle.laws.specs.Accepted.{AcceptedLine}
 use Rattle.laws.specs.Folds.{sum-same}
-use Rattle.cutter.specs.Lists.{rises-at, in-at}
-use Rattle.cutter.specs.Ends.{ends-rise, end-of, end-most, count-some, last-is}
+use Rattle.cut_steps.specs.Lists.{rises-at, in-at}
+use Rattle.cut_steps.specs.Ends.{ends-rise, end-of, end-most, count-some, last-is}
 use Rattle.allocation.specs.Adding.{RisingEnds, allocatedBetween, steps-add-up}
 
 -- what stands before the end of n steps is the last one's upper end

@@ -6,7 +6,7 @@ use Rattle.rules.specs.Fold.{five, at}
 use Rattle.rules.specs.Layout as layout
 use Rattle.rules.specs.Quantities.{pricingTotal, operatingTotal, effectiveActual}
 use Rattle.rules.specs.declared.Step.{Step}
-use Rattle.cutter.specs.Arrays.{bitAt}
+use Rattle.cut_steps.specs.Arrays.{bitAt}
 use Rattle.inputs.specs.declared.Market.{Market}
 use Rattle.inputs.specs.declared.LineTotals.{LineTotals}
 use Rattle.step_terms.specs.Terms.{cappedIn, paidIn}

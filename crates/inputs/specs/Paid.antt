@@ -23,7 +23,7 @@ use Rattle.allocation.specs.Adding.{stepConstrained, constrained-adds-up}
 use Rattle.amounts.specs.Sizes.{Sized}
 use Rattle.amounts.specs.Parts.{changeOn}
 use Rattle.amounts.specs.Kinds.{paid-most, taken-most}
-use Rattle.cutter.specs.Ends.{most-limit}
+use Rattle.cut_steps.specs.Ends.{most-limit}
 use Rattle.inputs.specs.Ends.{line-ends, upper-most}
 
 -- what a sum has above 0 is at most what its terms have, and so below 0

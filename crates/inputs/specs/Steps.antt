@@ -12,9 +12,9 @@ use Rattle.rules.specs.Quantities.{operatingTotal, effectiveActual, actualIn}
 use Rattle.rules.specs.Payments.{stepOf, stepPrice, stepFlag, stepPaid}
 use Rattle.laws.specs.Folds.{sum-le, at-five, same-five}
 use Rattle.laws.specs.Accepted.{AcceptedLine}
-use Rattle.cutter.specs.Arrays.{bitAt, bits-at, padded-at, padded-length, rows-at}
-use Rattle.cutter.specs.Prices.{prices-at, prices-length, flags-at, flags-most}
-use Rattle.cutter.specs.Ends.{count-most}
+use Rattle.cut_steps.specs.Arrays.{bitAt, bits-at, padded-at, padded-length, rows-at}
+use Rattle.cut_steps.specs.Prices.{prices-at, prices-length, flags-at, flags-most}
+use Rattle.cut_steps.specs.Ends.{count-most}
 use Rattle.inputs.specs.Inputs.{marketOf, totalsOf, stepFrom, priceIn, flagIn}
 use Rattle.step_terms.specs.Terms.{cappedAt, cappedIn, paidOn, paidIn}
 

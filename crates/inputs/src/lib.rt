@@ -14,7 +14,7 @@ ghost use lib.ListN.{length};
 ghost use Rattle.rules.specs.Fold.{five, at};
 ghost use Rattle.rules.specs.Refusals.{lineFault};
 ghost use Rattle.inputs.specs.Inputs.{marketOf, totalsOf, stepFrom, priceIn, flagIn};
-ghost use Rattle.cutter.specs.Arrays.{bitAt};
+ghost use Rattle.cut_steps.specs.Arrays.{bitAt};
 
 // The market table.
 pub struct Market {

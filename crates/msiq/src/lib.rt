@@ -2,7 +2,7 @@
 use numbers::lesser;
 ghost use mathlib.Core.Path.{_≡_};
 ghost use mathlib.Core.Bool.{cond};
-ghost use Prim.Native.Nat.{_-_, min};
+ghost use Prim.Native.Nat.{min};
 ghost use Rattle.rules.specs.Fold.{five};
 ghost use Rattle.rules.specs.Quantities as rule;
 

@@ -19,7 +19,7 @@ use Rattle.rules.specs.declared.Cut.{Cut}
 use Rattle.laws.specs.Accepted.{AcceptedDay, accepted-line, accepted-line-at}
 use Rattle.header.proofs.Header.{line-length}
 use Rattle.sweep.specs.Sweep.{Line}
-use Rattle.cutter.specs.Ends.{count-most}
+use Rattle.cut_steps.specs.Ends.{count-most}
 use Rattle.amounts.specs.Sizes.{Sized}
 use Rattle.amounts.specs.Amounts.{moneyOf}
 use Rattle.pool_amounts.specs.Amounts.{stepPool, noPool, poolSum, Addable, MoneyAddable, finalOn, moneySum}

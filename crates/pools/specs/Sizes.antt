@@ -16,7 +16,7 @@ use Rattle.rules.specs.declared.Step.{Step}
 use Rattle.laws.specs.Accepted.{AcceptedDay}
 use Rattle.laws.specs.Folds.{sum-le, sum-most, sum-term, sum-suc, at-five}
 use Rattle.numbers.specs.Fives.{past-five}
-use Rattle.cutter.specs.Ends.{count-most, most-limit}
+use Rattle.cut_steps.specs.Ends.{count-most, most-limit}
 use Rattle.amounts.specs.Sizes.{rate-most}
 use Rattle.amounts.specs.Parts.{changeOn, initial-plus, revised-plus, revised-most}
 use Rattle.amounts.specs.Kinds.{initial-most}

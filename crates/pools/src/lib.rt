@@ -47,7 +47,7 @@ fn line_pool(day: &[u8], k: usize, m: Market) -> SidePool
 {
     let line = line_of(day, k);
     let t = totals_of(line);
-    let cut = cutter::steps(line);
+    let cut = cut_steps::steps(line);
     let ends = cut.ends;
     let prices = cut.prices;
     let flags = cut.flags;
@@ -119,7 +119,7 @@ pub fn line_paid(day: &[u8], k: usize, m: Market, p: SidePool) -> LinePaid
 {
     let line = line_of(day, k);
     let t = totals_of(line);
-    let cut = cutter::steps(line);
+    let cut = cut_steps::steps(line);
     let ends = cut.ends;
     let prices = cut.prices;
     let flags = cut.flags;

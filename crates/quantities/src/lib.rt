@@ -1,4 +1,4 @@
-// Document 01, "Quantities": allocation to a step, AGINO, MSIQ and constrained on, each for the five schedules at once.
+// Document 01, "Quantities": constrained on, and AGINO and MSIQ of a step, each for the five schedules at once.
 use agino::agino;
 use allocation::actual_on;
 use allocation::operating_on;

@@ -1,7 +1,7 @@
 // A line's rows: pricing totals, the operating table, actuals.
 use sums::wide;
 ghost use mathlib.Core.Path.{_≡_};
-ghost use Prim.Native.Nat.{_+_, _*_, _<_};
+ghost use Prim.Native.Nat.{_<_};
 ghost use lib.ListN.{length};
 ghost use Rattle.rules.specs.Fold.{five};
 ghost use Rattle.rules.specs.Layout.{operatingEntry, operatingRow, operatingTable, actualEntry};

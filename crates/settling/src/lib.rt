@@ -3,7 +3,6 @@ use book_lines::put_book;
 use day::day_number;
 use header::line_count;
 ghost use mathlib.Core.Path.{_≡_};
-ghost use Prim.Native.Nat.{_+_, _*_, _<_};
 ghost use lib.ListN.{length};
 ghost use Rattle.rules.specs.Refusals.{settleFault};
 ghost use Rattle.rules.specs.Book.{bookAfter};

@@ -9,7 +9,6 @@ use numbers::lesser;
 use pool_amounts::Changes;
 use rules::Step;
 ghost use mathlib.Core.Path.{_≡_};
-ghost use Prim.Native.Nat.{_-_, _<_};
 ghost use Rattle.rules.specs.Fold.{mostTo, five, at};
 ghost use Rattle.rules.specs.Quantities.{leastFrom};
 ghost use Rattle.rules.specs.Payments as paper;

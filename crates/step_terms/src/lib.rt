@@ -1,8 +1,7 @@
 // The market price under the cap, and whether a step is paid, by schedule.
 use numbers::lesser;
 ghost use mathlib.Core.Path.{_≡_};
-ghost use Prim.Native.Nat.{_<_};
-ghost use Rattle.rules.specs.Fold.{five, at};
+ghost use Rattle.rules.specs.Fold.{five};
 ghost use Rattle.step_terms.specs.Terms.{cappedAt, cappedIn, paidOn, paidIn};
 
 fn capped(mark: u32, cap: u32, price: u32) -> u32

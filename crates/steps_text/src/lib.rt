@@ -58,7 +58,7 @@ fn put_line(out: &mut [u8], at: usize, day: &[u8], k: usize) -> usize
     ensures { λ r. ⌜ Written 88965 (now (out .entry)) at (lineSteps (now (day .entry)) k) r (now (out .exit)) ⌝ }
 {
     let line = line_of(day, k);
-    let count = cutter::steps(line).count;
+    let count = cut_steps::steps(line).count;
     let a = put_line_head(out, at, k, line, count);
     put_steps(out, a, day, k, count as usize)
 }

@@ -1,7 +1,7 @@
 // Sums of rows of five, in 64 bits, because nothing bounds the words of the totals.
 use numbers::lesser;
 ghost use mathlib.Core.Path.{_≡_};
-ghost use Prim.Native.Nat.{_+_, _<_};
+ghost use Prim.Native.Nat.{_<_};
 ghost use Rattle.rules.specs.Fold.{five};
 ghost use Rattle.sums.specs.Sums.{tableTotal, rowSum, lesserSum};
 

@@ -5,7 +5,7 @@ use bytes_le::word_at;
 use numbers::lesser;
 use std::num::wrapping_sub_u32;
 ghost use mathlib.Core.Path.{_≡_};
-ghost use Prim.Native.Nat.{_+_, _*_, _-_, _≤_, _<_};
+ghost use Prim.Native.Nat.{_≤_, _<_};
 ghost use lib.ListN.{length};
 ghost use lib.Dec.{eqb};
 ghost use Rattle.rules.specs.Layout.{bidCount, bidBreak};

@@ -2,7 +2,6 @@
 use kinds::Quantity;
 use kinds::QuantityRead;
 ghost use mathlib.Core.Path.{_≡_};
-ghost use Prim.Native.Nat.{_+_, _*_, _<_};
 ghost use lib.ListN.{length};
 ghost use Rattle.rules.specs.Fold.{first};
 ghost use Rattle.rules.specs.Refusals.{actualFault};

@@ -1,5 +1,5 @@
-// Decimal numbers and the lines of the report (document 01, K10), written into lent bytes from a place on.
-// Each function answers the place after its text. `Written` of specs/ says what stands in the bytes then.
+// The lines of the report (document 01, K10), written into lent bytes from a place on.
+// Each function answers the place after its text. `Written` of crate `digits` says what stands in the bytes then.
 use digits::put_byte;
 use digits::put_bytes;
 use digits::put_decimal;
@@ -9,7 +9,7 @@ ghost use Prim.Native.Nat.{_+_, _≤_};
 ghost use mathlib.Core.List.{_++_};
 ghost use lib.ListN.{length};
 ghost use Rattle.rules.specs.Fold.{atZ};
-ghost use Rattle.rules.specs.Report.{decimal, space, lineFeed, sideText, refusedLine};
+ghost use Rattle.rules.specs.Report.{decimal, lineFeed, sideText, refusedLine};
 ghost use Rattle.digits.specs.Put.{Written};
 ghost use Rattle.text.specs.Lines.{lineIds, sideSteps, lineStart, lineTextOf, heading, totalsText};
 

@@ -15,7 +15,7 @@ use Rattle.rules.specs.declared.Step.{Step}
 use Rattle.rules.specs.declared.View.{View}
 use Rattle.rules.specs.declared.Cut.{Cut}
 use Rattle.numbers.specs.Fives.{five-same}
-use Rattle.cutter.specs.Arrays.{padded-at}
+use Rattle.cut_steps.specs.Arrays.{padded-at}
 use Rattle.pool_amounts.specs.declared.SidePool.{SidePool}
 use Rattle.pool_amounts.specs.Amounts.{finalOn, poolAt}
 use Rattle.pool_amounts.specs.Parts.{off-initial}

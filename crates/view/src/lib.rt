@@ -125,7 +125,7 @@ pub fn view(day: &[u8], line: usize, step: usize) -> View
         return refused(16);
     }
     let part = line_of(day, line);
-    let cut = cutter::steps(part);
+    let cut = cut_steps::steps(part);
     let count = cut.count as usize;
     if count <= step {
         return refused(17);

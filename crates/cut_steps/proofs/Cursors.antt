@@ -14,12 +14,12 @@ use Rattle.rules.specs.Layout.{quantityMost, hedge, bidCount, bidBreak, bidPric
 use Rattle.rules.specs.Steps.{bidStep, price, flag, ends, hedgePoint, bidBreaks, stepCount, lowerEnd}
 use Rattle.laws.specs.Accepted.{AcceptedLine}
 use Rattle.sweep.specs.Search.{First, step-is, first-stays, first-moves}
-use Rattle.cutter.specs.Lists.{_∈_}
-use Rattle.cutter.specs.Ends.{end-of, end-most, most-limit, ends-rise}
-use Rattle.cutter.specs.Prices.{bid-first, price-min, flag-found, flag-none}
+use Rattle.cut_steps.specs.Lists.{_∈_}
+use Rattle.cut_steps.specs.Ends.{end-of, end-most, most-limit, ends-rise}
+use Rattle.cut_steps.specs.Prices.{bid-first, price-min, flag-found, flag-none}
 use Rattle.sweep.specs.Sweep.{past, above, bitIf, cursorAt, cursorFor, cursorMoved, stepAfter, sweepFor, sweepMoved, gapOf, nextGap, Within, Limited}
 use Rattle.sweep.specs.declared.Sweep.{Sweep}
-use Rattle.cutter.proofs.Least.{above-in, above-not, leastAbove, least-append, least-rising, least-one, least-before, least-after, least-next}
+use Rattle.cut_steps.proofs.Least.{above-in, above-not, leastAbove, least-append, least-rising, least-one, least-before, least-after, least-next}
 
 -- breaks that rise
 rises-next : (br : ℕ → ℕ) (n : ℕ) → ((j : ℕ) → j < n → before br j < br j) → (k : ℕ) → suc k < n → br k < br (suc k)

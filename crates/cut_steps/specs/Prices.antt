@@ -13,7 +13,7 @@ use Rattle.rules.specs.Refusals.{outOfOrder}
 use Rattle.rules.specs.Steps.{ends, stepCount, upperEnd, bidStep, price, flag}
 use Rattle.rules.specs.Cutting.{prices, flags}
 use Rattle.laws.specs.Accepted.{AcceptedLine}
-use Rattle.cutter.specs.Arrays.{map-at}
+use Rattle.cut_steps.specs.Arrays.{map-at}
 use Rattle.sweep.specs.Search.{First, step-first, first-mono}
 
 -- "its price is that of the first bid step whose break is at least its upper end. If there is none, the price is the bid's last price

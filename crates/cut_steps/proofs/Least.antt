@@ -11,7 +11,7 @@ use borrow.Author.Tests.{lt-ltb, le-ltb, eq-eqb, ne-eqb}
 use Rattle.rules.specs.Fold.{listTo}
 use Rattle.rules.specs.Steps.{insert, rising}
 use Rattle.sweep.specs.Search.{First}
-use Rattle.cutter.specs.Lists.{_∈_, here, there, Order, less, same, more, order, insert-none, insert-lt, insert-eq, insert-gt, Rises, rises-none, rises-more, rises-mono}
+use Rattle.cut_steps.specs.Lists.{_∈_, here, there, Order, less, same, more, order, insert-none, insert-lt, insert-eq, insert-gt, Rises, rises-none, rises-more, rises-mono}
 use Rattle.sweep.specs.Sweep.{past, above}
 
 pub above-in : (e x : ℕ) → e < x → above e x ≡ x
@@ -102,7 +102,7 @@ least-from e x (y ∷ l) h p =
     ]
 
 rises-from : {lo : ℕ} {l : List ℕ} → Rises lo l → (z : ℕ) → z ∈ l → lo ≤ z
-rises-from rises-none z m = absurd (Rattle.cutter.specs.Lists.in-none m)
+rises-from rises-none z m = absurd (Rattle.cut_steps.specs.Lists.in-none m)
 rises-from (rises-more p r) z (here e) = omega arith
 rises-from (rises-more p r) z (there m) = let a = rises-from r z m in omega arith
 

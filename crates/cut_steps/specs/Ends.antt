@@ -15,9 +15,9 @@ use Rattle.rules.specs.Layout.{quantityMost, hedge, bidCount, bidBreak}
 use Rattle.rules.specs.Steps.{ends, hedgePoint, bidBreaks, stepCount, upperEnd, greatestBreak, bidMost}
 use Rattle.laws.specs.Folds.{joined-none, joined-suc, list-length, most-least, most-term}
 use Rattle.laws.specs.Accepted.{AcceptedLine}
-use Rattle.cutter.specs.Lists.{_∈_, here, in-cons, in-none, in-left, in-right, in-append, in-at, place-of}
-use Rattle.cutter.specs.Lists.{in-list, list-in, in-joined, joined-in, in-rising, rising-in}
-use Rattle.cutter.specs.Lists.{Rises, rises-rising, rising-length, rises-mono}
+use Rattle.cut_steps.specs.Lists.{_∈_, here, in-cons, in-none, in-left, in-right, in-append, in-at, place-of}
+use Rattle.cut_steps.specs.Lists.{in-list, list-in, in-joined, joined-in, in-rising, rising-in}
+use Rattle.cut_steps.specs.Lists.{Rises, rises-rising, rising-length, rises-mono}
 
 -- "every distinct break of the five bids and .. the hedge if that isn't 0": what makes u an upper end
 pub data EndOf (w : List ℕ) (u : ℕ) : Type 0 where

@@ -1,13 +1,13 @@
--- `cutter::steps` meets its contract.
+-- `cut_steps::steps` meets its contract.
 use native.Mathlib.Omega.{arith}
 use Prim.Native.Nat.{_-_}
 use Rattle.rules.specs.Steps.{stepCount}
-use Rattle.cutter.specs.Ends.{count-most}
-use Rattle.cutter.proofs.Swept.{Swept, limited-none, swept-none, below-count, room, end-limit, markable, at-within, limited, swept-more, swept-all}
-use Rattle.cutter.proofs.steps.Statement.{statement}
-use Rattle.cutter.proofs.steps.Tie as tie
-use Rattle.cutter.proofs.steps.Reads as reads
-use Rattle.cutter.proofs.steps.Lts as lts
+use Rattle.cut_steps.specs.Ends.{count-most}
+use Rattle.cut_steps.proofs.Swept.{Swept, limited-none, swept-none, below-count, room, end-limit, markable, at-within, limited, swept-more, swept-all}
+use Rattle.cut_steps.proofs.steps.Statement.{statement}
+use Rattle.cut_steps.proofs.steps.Tie as tie
+use Rattle.cut_steps.proofs.steps.Reads as reads
+use Rattle.cut_steps.proofs.steps.Lts as lts
 use Rattle.bytes_le.proofs.word_at.Reads as word-at-reads
 use Rattle.step_prices.proofs.marked.Reads as marked-reads
 use Rattle.sweep.proofs.next_gap.Reads as next-gap-reads

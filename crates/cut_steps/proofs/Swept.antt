@@ -15,15 +15,15 @@ use Rattle.rules.specs.Steps.{ends, stepCount, upperEnd, lowerEnd, price, flag}
 use Rattle.rules.specs.Cutting.{bits, prices, flags, flagWord, missing, priceRow, cutOf}
 use Rattle.rules.specs.declared.Cut.{Cut}
 use Rattle.laws.specs.Accepted.{AcceptedLine}
-use Rattle.cutter.specs.Lists.{in-at}
-use Rattle.cutter.specs.Ends.{end-of, end-most, most-limit, count-most}
-use Rattle.cutter.specs.Prices.{flag-most, prices-length, prices-at, flags-length, flags-at, flags-most}
-use Rattle.cutter.specs.Arrays.{padded-length}
+use Rattle.cut_steps.specs.Lists.{in-at}
+use Rattle.cut_steps.specs.Ends.{end-of, end-most, most-limit, count-most}
+use Rattle.cut_steps.specs.Prices.{flag-most, prices-length, prices-at, flags-length, flags-at, flags-most}
+use Rattle.cut_steps.specs.Arrays.{padded-length}
 use Rattle.sweep.specs.Sweep.{Line, Room, Markable, Within, Limited, past, sweepFor, sweepMoved, nextGap, withFlag, wordsMarked, pricesPut}
 use Rattle.sweep.specs.declared.Sweep.{Sweep}
 use Rattle.sweep.specs.declared.Words.{Words}
-use Rattle.cutter.proofs.Cursors.{AtMost, at-most, cursor-price, cursor-flag, sweep-moves, sweep-next, sweep-within, sweep-limited, Gap, near, none, sweep-gap}
-use Rattle.cutter.proofs.Filling.{padded-set, putTo, joined-same, rows-all, bits-more, bits-below, ones-bits}
+use Rattle.cut_steps.proofs.Cursors.{AtMost, at-most, cursor-price, cursor-flag, sweep-moves, sweep-next, sweep-within, sweep-limited, Gap, near, none, sweep-gap}
+use Rattle.cut_steps.proofs.Filling.{padded-set, putTo, joined-same, rows-all, bits-more, bits-below, ones-bits}
 
 -- the row of prices and the word of flags of schedule s after n steps
 unfoldable pub rowTo : List ℕ → ℕ → ℕ → List ℕ

@@ -1,0 +1,5 @@
+-- Laws on the definitions of `rules` on which the steps and the certificate rest.
+pub mod Lists
+pub mod Ends
+pub mod Prices
+pub mod Arrays
