@@ -15,8 +15,8 @@ use Rattle.rules.specs.declared.Step.{Step}
 use Rattle.laws.specs.Folds.{sum-suc, sum-same, at-five}
 use Rattle.laws.specs.Ints.{pl, mi}
 use Rattle.numbers.specs.Fives.{five-same}
-use Rattle.matching.specs.Ledgers.{matchRow}
-use Rattle.matching.specs.Balance.{matched-out}
+use Rattle.ledger.specs.Ledgers.{matchRow}
+use Rattle.ledger.specs.Balance.{matched-out}
 use Rattle.amounts.specs.Sizes.{Sized, rate-most, revisedRate-most, fall-most, givenBack-most}
 use Rattle.amounts.specs.Parts.{changeOn, initial-plus, initial-minus, revised-plus, revised-taken, modified-plus, modified-minus}
 use Rattle.amounts.specs.Kinds.{revised-first, modified-first}

@@ -12,7 +12,7 @@ use Rattle.rules.specs.Payments.{onStep, excess, milder, rate, revisedRate, mat
 use Rattle.rules.specs.declared.Step.{Step}
 use Rattle.laws.specs.Folds.{sum-none, sum-suc}
 use Rattle.allocation.specs.Bounds.{onStep-upper}
-use Rattle.matching.specs.Balance.{falls-matched}
+use Rattle.ledger.specs.Balance.{falls-matched}
 
 -- a step within the limits of quantities and prices
 pub record Sized (x : Step) : Type 0 where

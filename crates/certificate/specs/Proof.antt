@@ -29,7 +29,7 @@ use Rattle.bookbytes.specs.Framing.{paymentAt, book-words, book-adjusted, book-
 use Rattle.certificate.specs.Certificate.{Certified, matchIn, matchesMade, matchesWith, adjustedIn, paymentsIn}
 use Rattle.allocation.specs.Bounds.{aginoOn-most, msiqOn-most}
 use Rattle.allocation.specs.Adding.{stepPricing, stepOperating, pricing-adds-up, operating-adds-up}
-use Rattle.matching.specs.Balance.{matchedWith, matchesIn, falls-matched, rises-bound, rises-balance}
+use Rattle.ledger.specs.Balance.{matchedWith, matchesIn, falls-matched, rises-bound, rises-balance}
 use Rattle.cutter.specs.Certificate.{endAt, widthAt}
 use Rattle.inputs.specs.Ends.{line-ends, widths-sum}
 use Rattle.inputs.specs.Paid.{payment-size}

@@ -1,2 +1,3 @@
--- The certificate of real calls.
+-- The certificate of real calls, and uses of it.
 pub mod Calls
+pub mod Uses

@@ -8,7 +8,7 @@ ghost use Prim.Native.Nat.{_<_, _^_};
 ghost use lib.Dec.{eqb};
 ghost use Rattle.rules.specs.Fold.{five};
 ghost use Rattle.rules.specs.Payments as paper;
-ghost use Rattle.matching.specs.Ledgers.{matchRow};
+ghost use Rattle.ledger.specs.Ledgers.{matchRow};
 ghost use Rattle.amounts.specs.Sizes.{Sized};
 ghost use Rattle.amounts.specs.Amounts.{revisedAt, givenAt, minusOf};
 

@@ -2,7 +2,7 @@
 use borrow.Author.Needs.{needs}
 use Rattle.rules.specs.Totals.{totals}
 use Rattle.pool_amounts.proofs.Settling.{of-falls, of-minus, final-row, sharing}
-use Rattle.matching.specs.Ledgers.{matchRow}
+use Rattle.ledger.specs.Ledgers.{matchRow}
 use Rattle.finals.proofs.final_taken.Statement.{statement}
 use Rattle.finals.proofs.final_taken.Tie as tie
 

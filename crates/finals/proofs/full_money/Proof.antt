@@ -1,7 +1,7 @@
 -- `finals::full_money` meets its contract, row by row.
 use mathlib.Core.Path.{_∙_}
 use Rattle.rules.specs.Matching.{rise, fall}
-use Rattle.matching.specs.Ledgers.{matchRow}
+use Rattle.ledger.specs.Ledgers.{matchRow}
 use Rattle.amounts.specs.Amounts.{moneyOf}
 use Rattle.amounts.proofs.Joining.{change-row, plus-row, minus-row}
 use Rattle.pool_amounts.proofs.Settling.{sharing, final-row, final-pays}

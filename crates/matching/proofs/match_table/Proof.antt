@@ -1,12 +1,12 @@
 -- `matching::match_table` meets its contract: each ledger holds the open rises before its schedule.
 use native.Mathlib.Omega.{arith}
 use borrow.Author.Needs.{needs}
-use Rattle.matching.proofs.Entering.{entering, holding-none}
+use Rattle.ledger.proofs.Entering.{entering, holding-none}
 use mathlib.Core.Path.{refl}
 use Rattle.rules.specs.Fold.{before}
 use Rattle.numbers.specs.Fives.{five-is}
 use Rattle.rules.specs.Matching.{earlier, matched}
-use Rattle.matching.specs.Ledgers.{matchRow}
+use Rattle.ledger.specs.Ledgers.{matchRow}
 use Rattle.matching.proofs.match_table.Statement.{statement}
 use Rattle.matching.proofs.match_table.Tie as tie
 

@@ -1,7 +1,7 @@
 -- `matching::ten_matches` meets its contract.
 use borrow.Author.Needs.{needs}
 use Rattle.rules.specs.Matching.{tenMatches}
-use Rattle.matching.specs.Ledgers.{matchRow}
+use Rattle.ledger.specs.Ledgers.{matchRow}
 use Rattle.matching.proofs.ten_matches.Statement.{statement}
 use Rattle.matching.proofs.ten_matches.Tie as tie
 

@@ -1,7 +1,7 @@
 -- `payments::modified_money` meets its contract.
 use borrow.Author.Needs.{needs}
 use mathlib.Core.Path.{_∙_, ap}
-use Rattle.matching.specs.Ledgers.{matchRow}
+use Rattle.ledger.specs.Ledgers.{matchRow}
 use Rattle.amounts.specs.declared.Money.{Money}
 use Rattle.amounts.specs.Amounts.{moneyOf}
 use Rattle.amounts.proofs.Joining.{modified-pays}

@@ -3,7 +3,7 @@ use mathlib.Core.Path.{_∙_, ap}
 use borrow.Author.Needs.{needs}
 use Rattle.amounts.specs.Amounts.{moneyOf}
 use Rattle.amounts.proofs.Joining.{revised-pays}
-use Rattle.matching.specs.Ledgers.{matchRow}
+use Rattle.ledger.specs.Ledgers.{matchRow}
 use Rattle.amounts.specs.declared.Money.{Money}
 use Rattle.payments.proofs.revised_money.Statement.{statement}
 use Rattle.payments.proofs.revised_money.Tie as tie

@@ -6,7 +6,7 @@ use Rattle.amounts.specs.Parts.{changeOn}
 use Rattle.pool_amounts.specs.Amounts.{stepPool}
 use Rattle.pool_amounts.proofs.Settling.{of-rises, of-falls, of-plus, of-minus, differ-row, wide-row}
 use Rattle.amounts.proofs.Joining.{revised-pays}
-use Rattle.matching.specs.Ledgers.{matchRow}
+use Rattle.ledger.specs.Ledgers.{matchRow}
 use Rattle.side_pool.proofs.full_pool.Statement.{statement}
 use Rattle.side_pool.proofs.full_pool.Tie as tie
 

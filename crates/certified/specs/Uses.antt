@@ -1,0 +1,38 @@
+-- The certificate applied: to K10's day, which is accepted, and to a law on the cutter that a buyer would ask for.
+use Prim.Native.Nat.{ℕ, _≤_, _<_}
+use mathlib.Core.Path.{_≡_, refl, _∙_}
+use mathlib.Core.List.{List}
+use lib.ListN.{length}
+use Rattle.rules.specs.Fold.{refuse, _orElse_, first, before, sumTo, mostTo}
+use Rattle.rules.specs.Layout.{lineCount, lineAt}
+use Rattle.rules.specs.Steps.{bidMost, greatestBreak}
+use Rattle.rules.specs.Quantities.{pricingIn, pricingTotal, operatingTotal}
+use Rattle.rules.specs.Refusals.{headerFault, marketPriceFault, markFault, marketFault, breakFault, outOfOrder, orderFault, priceFault, unusedFault, bidFault}
+use Rattle.rules.specs.Refusals.{totalFault, actualFault, lineFault, lineFaultAt, sameKey, pairFault, keyFault, dayFault}
+use Rattle.rules.specs.Figures.{k10Day}
+use Rattle.rules.specs.Cutting.{cutAnswer}
+use Rattle.rules.specs.Viewing.{viewAnswer}
+use Rattle.rules.specs.declared.View.{View}
+use Rattle.rules.specs.declared.Cut.{Cut}
+use Rattle.rules.specs.Book.{le, bookAfter}
+use Rattle.laws.specs.Folds.{sum-same}
+use Rattle.cutter.specs.Certificate.{widthAt}
+use Rattle.certificate.specs.Certificate.{Certified}
+use Rattle.certificate.specs.Proof.{certified}
+
+-- K10's day has none of settling's faults, by computation
+pub k10-accepted : dayFault k10Day ≡ 0
+unfolding refuse _orElse_ first before sumTo mostTo headerFault marketPriceFault markFault marketFault breakFault outOfOrder orderFault priceFault unusedFault bidFault totalFault actualFault lineFault lineFaultAt sameKey pairFault keyFault dayFault bidMost greatestBreak pricingIn pricingTotal operatingTotal le
+k10-accepted = refl
+
+-- and so it is certified, with its book in any lent one of at least 152 bytes
+pub k10-certified : (b : List ℕ) → 152 ≤ length b → Certified k10Day (bookAfter k10Day b) (viewAnswer k10Day) (λ k. cutAnswer (lineAt k10Day k))
+unfolding le
+k10-certified b l =
+    certified k10Day b (bookAfter k10Day b) (viewAnswer k10Day) (λ k. cutAnswer (lineAt k10Day k)) k10-accepted l refl
+    (λ k j. refl) (λ k. refl)
+
+-- the cutter alone covers a line: its own widths add up to the greatest break
+pub cutter-covers : (d book : List ℕ) (view : ℕ → ℕ → View) (cut : ℕ → Cut) → Certified d book view cut → (k : ℕ) → k < lineCount d → sumTo (cut k .count) (widthAt (cut k)) ≡ greatestBreak (lineAt d k)
+cutter-covers d book view cut c k l =
+    sum-same (cut k .count) (widthAt (cut k)) (λ j. view k j .width) (λ j g. c .same-width k j l g) ∙ c .widths k l

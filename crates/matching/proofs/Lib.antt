@@ -1,2 +1,0 @@
--- Laws that the proofs of `matching` cite.
-pub mod Entering

@@ -1,0 +1,2 @@
+-- Definitions and the laws on them.
+pub mod Figures

@@ -1,2 +1,0 @@
--- All figures of a step, and that they are the view's.
-pub mod Figures
