@@ -1,7 +1,7 @@
-/* Mewikofu for C and other languages. Link libcapi.a, which `rt staticlib capi` writes to target/staticlib: settling, the step view and the line
-   part; and for the cutter libcut_capi.a, which `rt staticlib cut_capi` writes and which has nothing of the engine.
+/* Mewikofu for C and other languages. Link libengine_c.a, which `rt staticlib engine_c` writes to target/staticlib: settling, the step view and the line
+   part; and for the cutter libcutter_c.a, which `rt staticlib cutter_c` writes and which has nothing of the engine.
 
-   A function takes any bytes: no input is left out of its contract, which stands in crates/capi/src and crates/cut_capi/src. The caller lends
+   A function takes any bytes: no input is left out of its contract, which stands in crates/engine_c/src and crates/cutter_c/src. The caller lends
    arrays of at least the lengths declared here; they may not overlap each other or the bytes that are read. */
 #ifndef MEWIKOFU_H
 #define MEWIKOFU_H
@@ -89,7 +89,7 @@ uint32_t mewikofu_view(const uint8_t *day, size_t length, size_t line, size_t st
    for a fault of the header, then 16; where it isn't 0 both places are 0 and the part is empty. */
 uint32_t mewikofu_line_part(const uint8_t *day, size_t length, size_t k, size_t *at, size_t *part_length);
 
-/* The cutter, of libcut_capi.a. Cuts one line of a day file, the `length` bytes at `line`. Answers the number, 18, then 6 to 13, and writes every lent place:
+/* The cutter, of libcutter_c.a. Cuts one line of a day file, the `length` bytes at `line`. Answers the number, 18, then 6 to 13, and writes every lent place:
    count    how many steps, at most 56
    ends     their upper ends, rising
    prices   their uncapped prices, at MEWIKOFU_PRICE_AT

@@ -1,4 +1,4 @@
-"""Settlement of one gas day by the proved code of libcapi.a and libcut_capi.a (include/mewikofu.h), for Python programs.
+"""Settlement of one gas day by the proved code of libengine_c.a and libcutter_c.a (include/mewikofu.h), for Python programs.
 
 Every function takes any bytes-like object and raises Refusal for the first fault met in the order of document 01's table,
 "Where each refusal is checked". The shared object is made by bindings/python/build; MEWIKOFU_LIBRARY in the environment names another.

@@ -1,4 +1,4 @@
-//! Links libcapi.a and libcut_capi.a of this repository's target/staticlib, which `rt staticlib` writes, or those of the folder
+//! Links libengine_c.a and libcutter_c.a of this repository's target/staticlib, which `rt staticlib` writes, or those of the folder
 //! MEWIKOFU_ARCHIVE_FOLDER.
 
 use std::path::{Path, PathBuf};
@@ -10,7 +10,7 @@ fn main() {
         None => Path::new(env!("CARGO_MANIFEST_DIR")).join("../../target/staticlib"),
     };
     println!("cargo:rustc-link-search=native={}", folder.display());
-    for name in ["capi", "cut_capi"] {
+    for name in ["engine_c", "cutter_c"] {
         let archive = folder.join(format!("lib{name}.a"));
         println!("cargo:rerun-if-changed={}", archive.display());
         assert!(

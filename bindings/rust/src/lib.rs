@@ -1,4 +1,4 @@
-//! Settlement of one gas day by the proved code of `libcapi.a` and `libcut_capi.a` (include/mewikofu.h), for Rust programs.
+//! Settlement of one gas day by the proved code of `libengine_c.a` and `libcutter_c.a` (include/mewikofu.h), for Rust programs.
 //!
 //! Every function takes any bytes. A refusal is the first fault met in the order of document 01's table, "Where each refusal is checked".
 

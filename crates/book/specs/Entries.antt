@@ -13,7 +13,7 @@ use Rattle.rules.specs.Refusals.{bookLength}
 use Rattle.rules.specs.Totals.{linePayment, total, totals, adjusted, adjustedTotal}
 use Rattle.rules.specs.Book.{wordBytes, signedBytes, bookHeader, totalPair, paymentBytes, lineEntry, bookOf}
 use Rattle.laws.specs.Folds.{at-five, joined-length}
-use Rattle.bookbytes.specs.Framing.{header-length, pairs-length, entry-length}
+use Rattle.book.specs.Framing.{header-length, pairs-length, entry-length}
 
 -- four words, as at the front of the book and of each of its lines
 abbrev pub fourWords : ℕ → ℕ → ℕ → ℕ → List ℕ

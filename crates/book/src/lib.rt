@@ -5,7 +5,7 @@ ghost use mathlib.Core.List.{_++_};
 ghost use lib.ListN.{length};
 ghost use Rattle.rules.specs.Fold.{joined, atZ};
 ghost use Rattle.rules.specs.Book.{wordBytes, signedBytes};
-ghost use Rattle.digits.specs.Put.{Written};
+ghost use Rattle.text.specs.Put.{Written};
 ghost use Rattle.book.specs.Entries.{fourWords, moneyBytes, pairBytes, entryOf, frontOf};
 
 // A word.

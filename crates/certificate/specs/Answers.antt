@@ -17,7 +17,7 @@ use Rattle.rules.specs.Viewing.{viewOf, viewRefused, viewAnswer}
 use Rattle.rules.specs.declared.View.{View}
 use Rattle.laws.specs.Accepted.{AcceptedDay, accepted-day}
 use Rattle.laws.specs.Folds.{refuse-false, refuse-true}
-use Rattle.cut_steps.specs.Arrays.{padded-at}
+use Rattle.cutter.specs.Arrays.{padded-at}
 use Rattle.cutter.specs.Certificate.{endAt, widthAt}
 use Rattle.certificate.specs.Certificate.{matchesBefore, matchIn}
 

@@ -23,18 +23,18 @@ use Rattle.rules.specs.declared.Cut.{Cut}
 use Rattle.laws.specs.Accepted.{accepted-day, accepted-line-at}
 use Rattle.laws.specs.Folds.{sum-same, at-five}
 use Rattle.laws.specs.Ints.{ltZ-yes, le-ltZ}
-use Rattle.totals.specs.Sizes.{Bounded, mag-size, adjusted-size}
-use Rattle.bookbytes.specs.Reading.{signedAt}
-use Rattle.bookbytes.specs.Framing.{paymentAt, book-words, book-adjusted, book-payment, after-settling}
+use Rattle.day_totals.specs.Sizes.{Bounded, mag-size, adjusted-size}
+use Rattle.book.specs.Reading.{signedAt}
+use Rattle.book.specs.Framing.{paymentAt, book-words, book-adjusted, book-payment, after-settling}
 use Rattle.certificate.specs.Certificate.{Certified, matchIn, matchesMade, matchesWith, adjustedIn, paymentsIn}
-use Rattle.allocation.specs.Bounds.{aginoOn-most, msiqOn-most}
-use Rattle.allocation.specs.Adding.{stepPricing, stepOperating, pricing-adds-up, operating-adds-up}
-use Rattle.ledger.specs.Balance.{matchedWith, matchesIn, falls-matched, rises-bound, rises-balance}
+use Rattle.step_quantities.specs.Bounds.{aginoOn-most, msiqOn-most}
+use Rattle.step_quantities.specs.Adding.{stepPricing, stepOperating, pricing-adds-up, operating-adds-up}
+use Rattle.step_matching.specs.Balance.{matchedWith, matchesIn, falls-matched, rises-bound, rises-balance}
 use Rattle.cutter.specs.Certificate.{endAt, widthAt}
-use Rattle.inputs.specs.Ends.{line-ends, widths-sum}
-use Rattle.inputs.specs.Paid.{payment-size}
-use Rattle.totals.specs.Sums.{sumZ-same}
-use Rattle.totals.specs.Money.{linePayments, totals-bounded, adjusted-payments, adjusted-order}
+use Rattle.step_inputs.specs.Ends.{line-ends, widths-sum}
+use Rattle.step_inputs.specs.Paid.{payment-size}
+use Rattle.day_totals.specs.Sums.{sumZ-same}
+use Rattle.day_totals.specs.Money.{linePayments, totals-bounded, adjusted-payments, adjusted-order}
 use Rattle.certificate.specs.Answers.{view-whole, view-past, cut-whole, settle-taken, end-at, width-at, match-at}
 
 module _ (d : List ℕ) (h : dayFault d ≡ 0) where

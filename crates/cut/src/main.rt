@@ -4,5 +4,5 @@ fn main() {
     let mut line = io::large_buffer();
     let n = io::read_full(libc::STDIN_FILENO, &mut line);
     let mut out = io::large_buffer();
-    cut_text::print_line(&mut out, &line[..n]);
+    cutter_text::answer::print_line(&mut out, &line[..n]);
 }

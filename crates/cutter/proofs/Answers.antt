@@ -11,7 +11,7 @@ use Rattle.rules.specs.declared.Cut.{Cut}
 use Rattle.laws.specs.Folds.{refuse-true, refuse-false, orElse-zero, orElse-stop}
 use Rattle.laws.specs.Accepted.{accepted-line}
 use Rattle.cutter.specs.Certificate.{answer-whole}
-use Rattle.sweep.specs.Sweep.{Line}
+use Rattle.cutter_cursors.specs.Sweep.{Line}
 
 -- the entry's three answers
 fault-short : (w : List ℕ) → (length w ≡ 660 → ⊥) → cutFault w ≡ 18

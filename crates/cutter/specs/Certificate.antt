@@ -15,10 +15,10 @@ use Rattle.rules.specs.Cutting.{prices, flags, flagWord, missing, priceRow, cut
 use Rattle.rules.specs.declared.Cut.{Cut}
 use Rattle.laws.specs.Folds.{orElse-both, sum-none, sum-suc, sum-same, at-five}
 use Rattle.laws.specs.Accepted.{AcceptedLine, accepted-line}
-use Rattle.cut_steps.specs.Lists.{in-at, place-of, rises-at, rises-mono}
-use Rattle.cut_steps.specs.Ends.{EndOf, end-of, of-end, ends-rise, count-most, count-some, last-is}
-use Rattle.cut_steps.specs.Prices.{PriceRule, price-rule, price-order, flag-stays, prices-length, prices-at, flags-length, flags-at, flags-most}
-use Rattle.cut_steps.specs.Arrays.{bitAt, padded-at, padded-length, rows-at, bits-at, sum-places}
+use Rattle.cutter.specs.Lists.{in-at, place-of, rises-at, rises-mono}
+use Rattle.cutter.specs.Ends.{EndOf, end-of, of-end, ends-rise, count-most, count-some, last-is}
+use Rattle.cutter.specs.Prices.{PriceRule, price-rule, price-order, flag-stays, prices-length, prices-at, flags-length, flags-at, flags-most}
+use Rattle.cutter.specs.Arrays.{bitAt, padded-at, padded-length, rows-at, bits-at, sum-places}
 
 -- the answer's upper end of step k, the one before (0 before the first), and the width
 unfoldable pub endAt : Cut → ℕ → ℕ

@@ -1,5 +1,7 @@
 // The cutter: one line's bytes to its steps' ends, prices and missing-price flags (document 01, "Steps and prices"), or to its refusal.
-use cut_steps::steps;
+pub mod steps;
+
+use crate::steps::steps;
 use line::line_number;
 use rules::Cut;
 ghost use mathlib.Core.Path.{_≡_};

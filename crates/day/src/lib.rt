@@ -1,8 +1,12 @@
 // The day file: its number, from the header, the market table, the lines and their keys.
-use header::header_number;
-use header::line_count;
-use keys::keys_number;
-use market::market_number;
+mod equal_keys;
+pub mod header;
+mod market;
+
+use crate::equal_keys::keys_number;
+use crate::header::header_number;
+use crate::header::line_count;
+use crate::market::market_number;
 ghost use mathlib.Core.Path.{_≡_};
 ghost use Rattle.rules.specs.Refusals.{dayFault};
 

@@ -10,11 +10,11 @@ use Rattle.rules.specs.Fold.{_orElse_, first}
 use Rattle.rules.specs.Layout.{side, accreditation, bidCount}
 use Rattle.rules.specs.Refusals.{breakFault, bidFault, lineFault}
 use Rattle.laws.specs.Folds.{stops, passes, ends-at, none-at, part-stops, part-passes, orElse-assoc, fold-stops}
-use Rattle.tail_rows.specs.Faults.{hedgeFault}
-use Rattle.fields.specs.Parts.{tailFault}
+use Rattle.line.specs.Faults.{hedgeFault}
+use Rattle.line.specs.Tail.{tailFault}
 use Rattle.line.specs.Parts.{lineFrom, headFault}
-use Rattle.bid_breaks.specs.Counts.{countFault}
-use Rattle.bid_prices.specs.Slots.{slotsFault}
+use Rattle.line_bids.specs.Counts.{countFault}
+use Rattle.line_bids.specs.Slots.{slotsFault}
 
 -- row 6
 module _ (w : List ℕ) (x : ℕ) (sd : x ≡ side w) where

@@ -1,9 +1,12 @@
 // One line's 660 bytes: refusals 6 to 13.
-use bid_breaks::break_number;
-use bid_breaks::count_number;
-use bid_breaks::count_of;
-use bid_prices::slots_number;
-use fields::tail_number;
+mod limits;
+mod tail;
+
+use crate::tail::tail_number;
+use line_bids::breaks::break_number;
+use line_bids::breaks::count_number;
+use line_bids::breaks::count_of;
+use line_bids::prices::slots_number;
 ghost use mathlib.Core.Path.{_≡_};
 ghost use Prim.Native.Nat.{_+_, _*_, _≤_};
 ghost use lib.ListN.{length};

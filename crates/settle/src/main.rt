@@ -3,6 +3,6 @@ fn main() {
     let mut buffer = io::large_buffer();
     let n = io::read_full(libc::STDIN_FILENO, &mut buffer);
     let mut out = [0u8; 12288];
-    let end = day_report::day_report(&buffer[..n], &mut out);
+    let end = text_day::day_report(&buffer[..n], &mut out);
     io::write_all(libc::STDOUT_FILENO, &out[..end]);
 }

@@ -1,7 +1,9 @@
 // Settling: a day's bytes to its book (document 01, "Totals and book").
-use book_lines::put_book;
+mod book_lines;
+
+use crate::book_lines::put_book;
 use day::day_number;
-use header::line_count;
+use day::header::line_count;
 ghost use mathlib.Core.Path.{_≡_};
 ghost use lib.ListN.{length};
 ghost use Rattle.rules.specs.Refusals.{settleFault};

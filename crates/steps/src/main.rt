@@ -5,5 +5,5 @@
 fn main() {
     let mut buffer = io::large_buffer();
     let n = io::read_full(libc::STDIN_FILENO, &mut buffer);
-    steps_text::print(&buffer[..n])
+    text_steps::steps_text::print(&buffer[..n])
 }

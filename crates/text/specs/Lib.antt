@@ -1,2 +1,5 @@
--- The report's lines over plain values, and their laws.
-pub mod Lines
+-- Definitions and the laws on them.
+pub mod Put
+pub mod Digits
+pub mod Signed
+pub mod Rows

@@ -1,15 +1,17 @@
 // The step view: every figure of one step of a day (document 01, "Totals and book").
+mod figures;
+
+use crate::figures::figures;
 use day::day_number;
-use header::line_count;
-use header::line_of;
-use inputs::flag_row;
-use inputs::market_of;
-use inputs::price_row;
-use inputs::step_of;
-use inputs::totals_of;
-use pools::pool_for;
+use day::header::line_count;
+use day::header::line_of;
+use day_pools::pool_for;
 use rules::View;
-use step_figures::figures;
+use step_inputs::inputs::flag_row;
+use step_inputs::inputs::market_of;
+use step_inputs::inputs::price_row;
+use step_inputs::inputs::step_of;
+use step_inputs::inputs::totals_of;
 ghost use mathlib.Core.Path.{_≡_};
 ghost use Prim.Native.Nat.{_<_};
 ghost use mathlib.Core.List.{_∷_};
@@ -63,7 +65,7 @@ pub fn view(day: &[u8], line: usize, step: usize) -> View
         return refused(16);
     }
     let part = line_of(day, line);
-    let cut = cut_steps::steps(part);
+    let cut = cutter::steps::steps(part);
     let count = cut.count as usize;
     if count <= step {
         return refused(17);

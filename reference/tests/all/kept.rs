@@ -43,9 +43,9 @@ fn examples() {
 fn day_numbers() {
     let damaged = run(&["days", "4608", "57", "damaged"], &[]);
     let pack = [run(&["edges"], &[]), damaged.clone()].concat();
-    assert!(kept("day_numbers", "stdin") == pack);
+    assert!(kept("check_day_numbers", "stdin") == pack);
     let numbers = run(&["expect", "number"], &pack);
-    assert!(kept("day_numbers", "stdout") == numbers);
+    assert!(kept("check_day_numbers", "stdout") == numbers);
     let of_damaged = String::from_utf8(run(&["expect", "number"], &damaged)).unwrap();
     for number in 0..=14 {
         let line = number.to_string();
@@ -64,9 +64,9 @@ fn settle() {
 #[test]
 fn settle_days() {
     let pack = run(&["days", "1", "240", "mixed"], &[]);
-    assert!(kept("settle_days", "stdin") == pack);
+    assert!(kept("check_settle", "stdin") == pack);
     let reports = run(&["expect", "settle"], &pack);
-    assert!(kept("settle_days", "stdout") == reports);
+    assert!(kept("check_settle", "stdout") == reports);
     let reports = String::from_utf8(reports).unwrap();
     for number in 1..=14 {
         let line = format!("refused {number}");
@@ -82,8 +82,8 @@ fn settle_days() {
 #[test]
 fn cut_lines() {
     let lines = run(&["lines", "1", "1000"], &[]);
-    assert!(kept("cut_lines", "stdin") == lines);
-    assert!(kept("cut_lines", "stdout") == run(&["expect", "cut"], &lines));
+    assert!(kept("check_cut", "stdin") == lines);
+    assert!(kept("check_cut", "stdout") == run(&["expect", "cut"], &lines));
     let mut counts = BTreeSet::new();
     let mut numbers = BTreeSet::new();
     let mut rest = &lines[..];
@@ -122,8 +122,8 @@ fn steps_days() {
     let small = run(&["days", "2300", "96", "small"], &[]);
     let damaged = run(&["days", "7476", "55", "damaged"], &[]);
     let pack = [small.clone(), damaged.clone()].concat();
-    assert!(kept("steps_days", "stdin") == pack);
-    assert!(kept("steps_days", "stdout") == run(&["expect", "steps"], &pack));
+    assert!(kept("check_steps", "stdin") == pack);
+    assert!(kept("check_steps", "stdout") == run(&["expect", "steps"], &pack));
     let numbers = String::from_utf8(run(&["expect", "number"], &small)).unwrap();
     assert_eq!(numbers, "0\n".repeat(96));
     let numbers = String::from_utf8(run(&["expect", "number"], &damaged)).unwrap();
@@ -133,10 +133,10 @@ fn steps_days() {
     }
 }
 
-/// The parts that `line_parts` prints, of its day and of parts of its buffer that are refused as days.
+/// The parts that `check_line_parts` prints, of its day and of parts of its buffer that are refused as days.
 #[test]
 fn line_parts() {
-    let day = kept("line_parts", "stdin");
+    let day = kept("check_line_parts", "stdin");
     assert_eq!(day, run(&["day", "16", "valid"], &[]));
     let mut space = day.clone();
     space.resize(4096, 0);
@@ -149,7 +149,7 @@ fn line_parts() {
         show(&mut shown, &space[..length], 0);
     }
     show(&mut shown, &space[1..], u64::MAX);
-    assert_eq!(kept("line_parts", "stdout"), shown.as_bytes());
+    assert_eq!(kept("check_line_parts", "stdout"), shown.as_bytes());
 }
 
 fn show(out: &mut String, day: &[u8], k: u64) {

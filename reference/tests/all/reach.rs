@@ -175,10 +175,10 @@ fn generated_days_reach() {
     assert_eq!(not_reached(valid_days()), [""; 0]);
 }
 
-/// The days that the program `steps_days` is run on.
+/// The days that the program `check_steps` is run on.
 #[test]
 fn days_of_steps_days_reach() {
-    let pack = kept("steps_days", "stdin");
+    let pack = kept("check_steps", "stdin");
     let mut pack = &pack[..];
     let days = std::iter::from_fn(|| reference::pack::read(&mut pack).unwrap());
     let valid: Vec<Vec<u8>> = days.filter(|day| day_number(day) == 0).collect();

@@ -1,7 +1,7 @@
 -- `book::put_entry` meets its contract: the words, then the payments.
 use borrow.Author.Needs.{needs}
 use Rattle.rules.specs.Fold.{before}
-use Rattle.digits.specs.Put.{then}
+use Rattle.text.specs.Put.{then}
 use Rattle.book.specs.Entries.{entryOf}
 use Rattle.book.proofs.put_entry.Statement.{statement}
 use Rattle.book.proofs.put_entry.Tie as tie

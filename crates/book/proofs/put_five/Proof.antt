@@ -4,10 +4,10 @@ use mathlib.Core.Path.{_≡_}
 use lib.ListN.{length}
 use borrow.Author.Needs.{needs}
 use Rattle.rules.specs.Fold.{joined, before, at, atZ}
-use Rattle.digits.specs.Put.{Written, row-none}
+use Rattle.text.specs.Put.{Written, row-none}
 use Rattle.book.specs.Entries.{moneyBytes}
 use Rattle.book.proofs.Laws.{money-more, row-all}
-use Rattle.digits.proofs.Signs.{array-fits}
+use Rattle.text.proofs.digits.Signs.{array-fits}
 use Rattle.book.proofs.put_five.Statement.{statement}
 use Rattle.book.proofs.put_five.Tie as tie
 

@@ -1,7 +1,7 @@
 -- `book::put_front` meets its contract: the words, then the pairs.
 use borrow.Author.Needs.{needs}
 use Rattle.rules.specs.Fold.{before}
-use Rattle.digits.specs.Put.{then}
+use Rattle.text.specs.Put.{then}
 use Rattle.book.specs.Entries.{frontOf}
 use Rattle.book.proofs.put_front.Statement.{statement}
 use Rattle.book.proofs.put_front.Tie as tie

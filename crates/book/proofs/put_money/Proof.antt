@@ -3,7 +3,7 @@ use borrow.Author.Needs.{needs}
 use Rattle.rules.specs.Book.{signedBytes}
 use Rattle.rules.specs.Fold.{before}
 use Rattle.book.proofs.Laws.{written-le}
-use Rattle.digits.proofs.Signs.{own}
+use Rattle.text.proofs.digits.Signs.{own}
 use Rattle.book.proofs.put_money.Statement.{statement}
 use Rattle.book.proofs.put_money.Tie as tie
 

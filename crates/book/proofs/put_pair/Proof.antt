@@ -2,8 +2,8 @@
 use borrow.Author.Needs.{needs}
 use Rattle.rules.specs.Book.{signedBytes}
 use Rattle.rules.specs.Fold.{before}
-use Rattle.digits.specs.Put.{then}
-use Rattle.digits.proofs.Signs.{own}
+use Rattle.text.specs.Put.{then}
+use Rattle.text.proofs.digits.Signs.{own}
 use Rattle.book.proofs.put_pair.Statement.{statement}
 use Rattle.book.proofs.put_pair.Tie as tie
 

@@ -4,10 +4,10 @@ use mathlib.Core.Path.{_≡_}
 use lib.ListN.{length}
 use borrow.Author.Needs.{needs}
 use Rattle.rules.specs.Fold.{joined, before, at, atZ}
-use Rattle.digits.specs.Put.{Written, row-none}
+use Rattle.text.specs.Put.{Written, row-none}
 use Rattle.book.specs.Entries.{pairBytes}
 use Rattle.book.proofs.Laws.{pair-more, row-all}
-use Rattle.digits.proofs.Signs.{array-fits}
+use Rattle.text.proofs.digits.Signs.{array-fits}
 use Rattle.book.proofs.put_pairs.Statement.{statement}
 use Rattle.book.proofs.put_pairs.Tie as tie
 

@@ -1,7 +1,7 @@
 -- `book::put_words` meets its contract: one word after another.
 use borrow.Author.Needs.{needs}
 use Rattle.rules.specs.Fold.{before}
-use Rattle.digits.specs.Put.{then}
+use Rattle.text.specs.Put.{then}
 use Rattle.book.proofs.put_words.Statement.{statement}
 use Rattle.book.proofs.put_words.Tie as tie
 

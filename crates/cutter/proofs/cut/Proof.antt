@@ -6,7 +6,7 @@ use Rattle.cutter.proofs.cut.Tie as tie
 use Rattle.cutter.proofs.cut.Reads as reads
 use Rattle.cutter.proofs.cut.Lts as lts
 use Rattle.cutter.proofs.refused.Reads as refused-reads
-use Rattle.cut_steps.proofs.steps.Reads as steps-reads
+use Rattle.cutter.proofs.steps.steps.Reads as steps-reads
 use Rattle.line.proofs.line_number.Reads as line-number-reads
 
 refused-requires : tie.Need-refused-requires

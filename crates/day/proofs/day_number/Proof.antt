@@ -2,7 +2,7 @@
 use native.Mathlib.Omega.{arith}
 use borrow.Author.Needs.{needs}
 use Rattle.day.proofs.Laws.{day-header, day-market, day-lines, day-keys}
-use Rattle.header.proofs.Header.{the-header}
+use Rattle.day.proofs.header.Header.{the-header}
 use Rattle.day.proofs.day_number.Statement.{statement}
 use Rattle.day.proofs.day_number.Tie as tie
 

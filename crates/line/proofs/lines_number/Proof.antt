@@ -7,7 +7,7 @@ use Rattle.rules.specs.Fold.{first}
 use Rattle.rules.specs.Refusals.{breakFault, bidFault}
 use Rattle.laws.specs.Folds.{fold-begins, fold-goes, fold-stops, fold-ends, all-passed}
 use Rattle.line.specs.Parts.{lineFrom}
-use Rattle.bid_breaks.proofs.Breaks.{count-few}
+use Rattle.line_bids.proofs.breaks.Breaks.{count-few}
 use Rattle.line.proofs.Laws.{bid-count, bid-break, bid-slots, line-head, line-bid, line-tail, lent-is, lent-length}
 use Rattle.line.proofs.lines_number.Statement.{statement}
 use Rattle.line.proofs.lines_number.Tie as tie

@@ -4,7 +4,7 @@ use denote.Ref.{now}
 use native.Mathlib.Omega.{arith}
 use borrow.Author.Needs.{needs}
 use Rattle.laws.specs.Accepted.{accepted-day}
-use Rattle.book_lines.specs.Lines.{day-refused, book-short, book-put}
+use Rattle.settling.specs.Lines.{day-refused, book-short, book-put}
 use Rattle.settling.proofs.settle.Statement.{statement}
 use Rattle.settling.proofs.settle.Tie as tie
 

@@ -1,7 +1,7 @@
 -- `view::lower_end` meets its contract.
 use denote.Ref.{now}
 use borrow.Author.Needs.{needs}
-use Rattle.step_figures.specs.Figures.{lower-there}
+use Rattle.view.specs.Figures.{lower-there}
 use Rattle.view.proofs.lower_end.Statement.{statement}
 use Rattle.view.proofs.lower_end.Tie as tie
 

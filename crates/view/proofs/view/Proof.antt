@@ -4,9 +4,9 @@ use denote.Ref.{now}
 use native.Mathlib.Omega.{arith}
 use borrow.Author.Needs.{needs}
 use Rattle.laws.specs.Accepted.{accepted-day}
-use Rattle.pools.proofs.Laws.{line-lies, lent-length, lent-accepted, lent-line, count-is, count-few, step-built, step-sized, step-payable, market-claw}
-use Rattle.step_figures.specs.Figures.{view-refused, fault-day, fault-line, fault-step, view-whole}
-use Rattle.step_figures.proofs.Laws.{lower-is, pool-there, figures-there}
+use Rattle.day_pools.proofs.Laws.{line-lies, lent-length, lent-accepted, lent-line, count-is, count-few, step-built, step-sized, step-payable, market-claw}
+use Rattle.view.specs.Figures.{view-refused, fault-day, fault-line, fault-step, view-whole}
+use Rattle.view.proofs.figures.Laws.{lower-is, pool-there, figures-there}
 use Rattle.view.proofs.view.Statement.{statement}
 use Rattle.view.proofs.view.Tie as tie
 

@@ -1,3 +1,0 @@
--- Reading numbers back out of bytes, and where the numbers of a book stand.
-pub mod Reading
-pub mod Framing

@@ -1,1 +1,0 @@
-// Reading a book back from its bytes: the definitions and laws are in specs/.

@@ -1,0 +1,1 @@
+-- Proofs of `certificate_calls`.

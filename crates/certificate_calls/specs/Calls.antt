@@ -1,0 +1,100 @@
+-- The certificate of what the entry points answer: from the number 0 of settling, or of the view, alone.
+use Prim.Native.Nat.{ℕ, zero, suc, _≤_, _<_}
+use native.Mathlib.Omega.{arith}
+use mathlib.Core.Path.{_≡_, refl, sym, _∙_, ap}
+use mathlib.Core.List.{List}
+use mathlib.Core.Bool.{Bool, true, false, cond}
+use lib.ListN.{length, getD, replicate, length-replicate}
+use lib.Dec.{eqb, ltb, leb, eqb·suc-zero}
+use borrow.Author.Tests.{ltb-false, leb-false, lt-leb}
+use Rattle.rules.specs.Fold.{refuse, _orElse_}
+use Rattle.rules.specs.Layout.{lineCount, lineAt}
+use Rattle.rules.specs.Steps.{stepCount}
+use Rattle.rules.specs.Refusals.{headerFault, dayFault, settleFault, viewFault, bookLength, linePartFault, linePart}
+use Rattle.rules.specs.Cutting.{cutOf, cutAnswer}
+use Rattle.rules.specs.Viewing.{viewOf, viewRefused, viewAnswer}
+use Rattle.rules.specs.Book.{bookAfter}
+use Rattle.rules.specs.declared.View.{View}
+use Rattle.rules.specs.declared.Cut.{Cut}
+use Rattle.laws.specs.Folds.{orElse-both, refuse-zero, refuse-false}
+use Rattle.laws.specs.Accepted.{accepted-day, accepted-line-at}
+use Rattle.cutter.specs.Ends.{count-most}
+use Rattle.cutter.specs.Certificate.{endAt}
+use Rattle.certificate.specs.Certificate.{Certified}
+use Rattle.certificate.specs.Answers.{cut-whole}
+use Rattle.certificate.specs.Proof.{certified}
+
+-- the cutter's answer for the bytes of line k
+unfoldable pub lineCut : List ℕ → ℕ → Cut
+lineCut d k = cutAnswer (lineAt d k)
+
+-- demand 3 on the day d, with `book` as settling leaves it and the answers that the contracts of view and cut fix
+abbrev pub CertifiedDay : List ℕ → List ℕ → Type 0
+CertifiedDay d book = Certified d book (viewAnswer d) (lineCut d)
+
+-- settling answered 0
+pub settled-certified : (d b c : List ℕ) (r : ℕ) → r ≡ settleFault d (length b) → c ≡ bookAfter d b → r ≡ 0 → CertifiedDay d c
+unfolding settleFault lineCut
+settled-certified d b c r re ce z =
+    let both = orElse-both (dayFault d) (refuse 15 (ltb (length b) (bookLength (lineCount d)))) (sym re ∙ z) in
+    let room = ltb-false (length b) (bookLength (lineCount d)) (refuse-zero 14 (ltb (length b) (bookLength (lineCount d))) (both .right)) in
+    certified d b c (viewAnswer d) (λ k. cutAnswer (lineAt d k)) (both .left) room ce (λ k j. refl) (λ k. refl)
+
+-- the view answered 0: the day is accepted, the line and the step are there
+number-by : (d : List ℕ) (k j m : ℕ) → cond (eqb m 0) (viewOf d k j) (viewRefused m) .number ≡ 0 → m ≡ 0
+unfolding viewRefused
+number-by d k j zero e = refl
+number-by d k j (suc m) e = absurd (omega (arith, rw (eqb·suc-zero m) at e))
+
+pub record Viewed (d : List ℕ) (k j : ℕ) : Type 0 where
+  pub accepted : dayFault d ≡ 0
+  pub line : k < lineCount d
+  pub step : j < stepCount (lineAt d k)
+
+pub viewed : (d : List ℕ) (k j : ℕ) (v : View) → v ≡ viewAnswer d k j → v .number ≡ 0 → Viewed d k j
+unfolding viewAnswer viewFault
+viewed d k j v e z =
+    let none : viewFault d k j ≡ 0 = number-by d k j (viewFault d k j) (sym (ap (λ (u : View). u .number) e) ∙ z) in
+    let both = orElse-both (dayFault d) _ none in
+    let rest = orElse-both (refuse 16 (leb (lineCount d) k)) (refuse 17 (leb (stepCount (lineAt d k)) j)) (both .right) in
+    record {
+      accepted = both .left;
+      line = leb-false (lineCount d) k (refuse-zero 15 _ (rest .left));
+      step = leb-false (stepCount (lineAt d k)) j (refuse-zero 16 _ (rest .right));
+    }
+
+-- the part that is lent is the line
+part-there : (d : List ℕ) (k : ℕ) → dayFault d ≡ 0 → k < lineCount d → linePart d k ≡ lineAt d k
+unfolding linePart linePartFault dayFault _orElse_
+part-there d k h l =
+    let header : headerFault d ≡ 0 = orElse-both (headerFault d) _ h .left in
+    rw (header, lt-leb (lineCount d) k l, refuse-false 16)
+
+module _ (d : List ℕ) (k j : ℕ) (v : View) (p : List ℕ) (c : Cut) (ve : v ≡ viewAnswer d k j) (z : v .number ≡ 0) (pe : p ≡ linePart d k) (ce : c ≡ cutAnswer p) where
+  there : Viewed d k j
+  there = viewed d k j v ve z
+
+  own : c ≡ lineCut d k
+  unfolding lineCut
+  own = ce ∙ ap cutAnswer (pe ∙ part-there d k (there .accepted) (there .line))
+
+  count-is : lineCut d k .count ≡ stepCount (lineAt d k)
+  unfolding lineCut cutOf
+  count-is = ap (λ (x : Cut). x .count) (cut-whole d (there .accepted) k (there .line))
+
+  pub step-few : j < 56
+  step-few = omega (arith, there .step, count-most (lineAt d k) (accepted-line-at d (accepted-day d (there .accepted)) k (there .line)))
+
+  -- any book that is long enough will do
+  cert : CertifiedDay d (bookAfter d (replicate (bookLength (lineCount d)) 0))
+  unfolding lineCut
+  cert =
+      let b : List ℕ = replicate (bookLength (lineCount d)) 0 in
+      certified d b (bookAfter d b) (viewAnswer d) (λ i. cutAnswer (lineAt d i)) (there .accepted) (omega (arith, length-replicate {A = ℕ} (bookLength (lineCount d)) 0)) refl (λ i m. refl) (λ i. refl)
+
+  pub same-end : getD (c .ends) j 0 ≡ v .end
+  unfolding endAt
+  same-end =
+      ap (λ (x : Cut). getD (x .ends) j 0) own
+      ∙ cert .same-end k j (there .line) (omega (arith, there .step, count-is))
+      ∙ sym (ap (λ (u : View). u .end) ve)

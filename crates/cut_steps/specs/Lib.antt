@@ -1,5 +1,0 @@
--- Laws on the definitions of `rules` on which the steps and the certificate rest.
-pub mod Lists
-pub mod Ends
-pub mod Prices
-pub mod Arrays

@@ -1,2 +1,0 @@
--- The text of the cutter's answer.
-pub mod CutText

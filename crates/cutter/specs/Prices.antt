@@ -1,0 +1,151 @@
+-- Laws of a step's price and flag in one schedule, from what acceptance says of the bid.
+use Prim.Native.Nat.{ℕ, zero, suc, _+_, _*_, _-_, _≤_, _<_, min}
+use native.Mathlib.Omega.{arith}
+use native.Mathlib.Decide.{decLt}
+use mathlib.Core.Path.{_≡_, refl, sym, _∙_, ap, subst}
+use mathlib.Core.Bool.{Bool, true, false, cond}
+use mathlib.Core.List.{List}
+use lib.ListN.{length, getD, length-map, List·getD-eq-default}
+use lib.Dec.{eqb, ltb}
+use borrow.Author.Tests.{lt-ltb, le-ltb, ltb-false}
+use Rattle.rules.specs.Layout.{side, bidCount, bidBreak, bidPrice}
+use Rattle.rules.specs.Refusals.{outOfOrder}
+use Rattle.rules.specs.Steps.{ends, stepCount, upperEnd, bidStep, price, flag}
+use Rattle.rules.specs.Cutting.{prices, flags}
+use Rattle.laws.specs.Accepted.{AcceptedLine}
+use Rattle.cutter.specs.Arrays.{map-at}
+use Rattle.cutter_cursors.specs.Search.{First, step-first, first-mono}
+
+-- "its price is that of the first bid step whose break is at least its upper end. If there is none, the price is the bid's last price
+-- and the flag is 1. Otherwise the flag is 0": price p and flag f of the step that ends at u
+pub data PriceRule (w : List ℕ) (s u p f : ℕ) : Type 0 where
+  of-step : (j : ℕ) → j < bidCount w s → ((i : ℕ) → i < j → bidBreak w s i < u) → u ≤ bidBreak w s j → p ≡ bidPrice w s j → f ≡ 0 → PriceRule w s u p f
+  of-last : ((i : ℕ) → i < bidCount w s → bidBreak w s i < u) → p ≡ bidPrice w s (bidCount w s - 1) → f ≡ 1 → PriceRule w s u p f
+
+pub bid-first : (w : List ℕ) (s u : ℕ) → First (bidBreak w s) u (bidCount w s) (bidStep w s u)
+unfolding bidStep
+bid-first w s u = step-first (bidBreak w s) u (bidCount w s)
+
+pub price-found : (w : List ℕ) (s u : ℕ) → bidStep w s u < bidCount w s → price w s u ≡ bidPrice w s (bidStep w s u)
+unfolding price
+price-found w s u h = rw (lt-ltb (bidStep w s u) (bidCount w s) h)
+
+pub price-none : (w : List ℕ) (s u : ℕ) → bidCount w s ≤ bidStep w s u → price w s u ≡ bidPrice w s (bidCount w s - 1)
+unfolding price
+price-none w s u h = rw (le-ltb (bidStep w s u) (bidCount w s) h)
+
+pub flag-found : (w : List ℕ) (s u : ℕ) → bidStep w s u < bidCount w s → flag w s u ≡ 0
+unfolding flag
+flag-found w s u h = rw (lt-ltb (bidStep w s u) (bidCount w s) h)
+
+pub flag-none : (w : List ℕ) (s u : ℕ) → bidCount w s ≤ bidStep w s u → flag w s u ≡ 1
+unfolding flag
+flag-none w s u h = rw (le-ltb (bidStep w s u) (bidCount w s) h)
+
+pub flag-most : (w : List ℕ) (s u : ℕ) → flag w s u ≤ 1
+flag-most w s u =
+    elim (decLt (bidStep w s u) (bidCount w s)) [
+      | yes l ↦ rw (flag-found w s u l) (omega arith)
+      | no g ↦ rw (flag-none w s u (omega arith)) (omega arith)
+    ]
+
+pub price-rule : (w : List ℕ) (s u : ℕ) → PriceRule w s u (price w s u) (flag w s u)
+price-rule w s u =
+    let r = bid-first w s u in
+    elim (decLt (bidStep w s u) (bidCount w s)) [
+      | yes l ↦ of-step (bidStep w s u) l (r .passed) (r .reached l) (price-found w s u l) (flag-found w s u l)
+      | no g ↦
+          let h : bidCount w s ≤ bidStep w s u = omega arith in
+          of-last (λ i l. r .passed i (omega arith)) (price-none w s u h) (flag-none w s u h)
+    ]
+
+-- a flag that is set is set for every greater end
+pub flag-stays : (w : List ℕ) (s u v : ℕ) → u ≤ v → flag w s u ≡ 1 → flag w s v ≡ 1
+flag-stays w s u v h e =
+    let m = first-mono (bid-first w s u) (bid-first w s v) h in
+    elim (decLt (bidStep w s u) (bidCount w s)) [
+      | yes l ↦ let z = flag-found w s u l in absurd (omega arith)
+      | no g ↦ flag-none w s v (omega arith)
+    ]
+
+-- prices in order, "falling (withdrawal: rising)" being out of it, whichever the side
+in-order : (t : Bool) → ℕ → ℕ → Bool
+in-order t p q = cond t (ltb p q) (ltb q p)
+
+in-order-same : (t : Bool) (p : ℕ) → in-order t p p ≡ false
+unfolding in-order
+in-order-same true p = le-ltb p p (omega arith)
+in-order-same false p = le-ltb p p (omega arith)
+
+in-order-trans : (t : Bool) (p q r : ℕ) → in-order t p q ≡ false → in-order t q r ≡ false → in-order t p r ≡ false
+unfolding in-order
+in-order-trans true p q r a b =
+    let x = ltb-false p q a in
+    let y = ltb-false q r b in
+    le-ltb p r (omega arith)
+in-order-trans false p q r a b =
+    let x = ltb-false q p a in
+    let y = ltb-false r q b in
+    le-ltb r p (omega arith)
+
+pub order-same : (sd p : ℕ) → outOfOrder sd p p ≡ false
+unfolding outOfOrder in-order
+order-same sd p = in-order-same (eqb sd 1) p
+
+pub order-trans : (sd p q r : ℕ) → outOfOrder sd p q ≡ false → outOfOrder sd q r ≡ false → outOfOrder sd p r ≡ false
+unfolding outOfOrder in-order
+order-trans sd p q r a b = in-order-trans (eqb sd 1) p q r a b
+
+-- n prices of which each is in order after the one before
+pub order-places : (sd n : ℕ) (pr : ℕ → ℕ) → ((j : ℕ) → suc j < n → outOfOrder sd (pr j) (pr (suc j)) ≡ false) → (i j : ℕ) → i ≤ j → j < n → outOfOrder sd (pr i) (pr j) ≡ false
+order-places sd n pr h i zero l m = let e : i ≡ 0 = omega arith in rw e (order-same sd (pr 0))
+order-places sd n pr h i (suc j) l m =
+    let r = order-places sd n pr h i j in
+    elim (decLt i (suc j)) [
+      | yes k ↦ order-trans sd (pr i) (pr j) (pr (suc j)) (r (omega arith) (omega arith)) (h j m)
+      | no g ↦ let e : i ≡ suc j = omega arith in rw e (order-same sd (pr (suc j)))
+    ]
+
+-- the price is that of the step found, or of the last
+pub price-min : (w : List ℕ) (s u : ℕ) → 0 < bidCount w s → price w s u ≡ bidPrice w s (min (bidStep w s u) (bidCount w s - 1))
+price-min w s u h =
+    elim (decLt (bidStep w s u) (bidCount w s)) [
+      | yes l ↦
+          let e : bidStep w s u ≡ min (bidStep w s u) (bidCount w s - 1) = omega arith in
+          price-found w s u l ∙ ap (bidPrice w s) e
+      | no g ↦
+          let e : bidCount w s - 1 ≡ min (bidStep w s u) (bidCount w s - 1) = omega arith in
+          price-none w s u (omega arith) ∙ ap (bidPrice w s) e
+    ]
+
+pub price-order : (w : List ℕ) → AcceptedLine w → (s u v : ℕ) → s < 5 → u ≤ v → outOfOrder (side w) (price w s u) (price w s v) ≡ false
+price-order w h s u v l m =
+    let c = h .bids s l .count-least in
+    let d = first-mono (bid-first w s u) (bid-first w s v) m in
+    rw (price-min w s u c, price-min w s v c)
+    (order-places (side w) (bidCount w s) (bidPrice w s) (h .bids s l .ordered) (min (bidStep w s u) (bidCount w s - 1)) (min (bidStep w s v) (bidCount w s - 1)) (omega arith) (omega arith))
+
+-- the steps' prices and flags, place by place
+pub prices-length : (w : List ℕ) (s : ℕ) → length (prices w s) ≡ stepCount w
+unfolding prices stepCount
+prices-length w s = length-map (ends w) (price w s)
+
+pub prices-at : (w : List ℕ) (s k : ℕ) → k < stepCount w → getD (prices w s) k 0 ≡ price w s (upperEnd w k)
+unfolding prices upperEnd stepCount
+prices-at w s k b = map-at (price w s) (ends w) k b
+
+pub flags-length : (w : List ℕ) (s : ℕ) → length (flags w s) ≡ stepCount w
+unfolding flags stepCount
+flags-length w s = length-map (ends w) (flag w s)
+
+pub flags-at : (w : List ℕ) (s k : ℕ) → k < stepCount w → getD (flags w s) k 0 ≡ flag w s (upperEnd w k)
+unfolding flags upperEnd stepCount
+flags-at w s k b = map-at (flag w s) (ends w) k b
+
+pub flags-most : (w : List ℕ) (s k : ℕ) → getD (flags w s) k 0 ≤ 1
+flags-most w s k =
+    let e = flags-length w s in
+    elim (decLt k (stepCount w)) [
+      | yes l ↦ rw (flags-at w s k l) (flag-most w s (upperEnd w k))
+      | no g ↦ let z = List·getD-eq-default (flags w s) 0 {n = k} (omega arith) in omega arith
+    ]

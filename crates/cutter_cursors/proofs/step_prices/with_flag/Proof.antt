@@ -1,0 +1,16 @@
+-- `cutter_cursors::step_prices::with_flag` meets its contract.
+use borrow.Author.Needs.{needs}
+use Rattle.cutter_cursors.proofs.cursors.Moves.{flag-put}
+use Rattle.cutter_cursors.proofs.step_prices.with_flag.Statement.{statement}
+use Rattle.cutter_cursors.proofs.step_prices.with_flag.Tie as tie
+use Rattle.cutter_cursors.proofs.step_prices.with_flag.Reads as reads
+use Rattle.cutter_cursors.proofs.step_prices.with_flag.Lts as lts
+
+shl-result : tie.Need-shl-result
+shl-result c = search needs
+
+returns : tie.Need-returns
+returns c = flag-put _ _ _ (c .pre)
+
+pub with-flag-spec : {M : Type 1} → statement M
+with-flag-spec = tie.close (tie.spec shl-result returns)

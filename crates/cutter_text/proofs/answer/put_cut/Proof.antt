@@ -1,0 +1,25 @@
+-- `cutter_text::answer::put_cut` meets its contract: by its cases.
+use native.Mathlib.Omega.{arith}
+use borrow.Author.Needs.{needs}
+use Rattle.cutter_text.specs.CutText.{textMost, text-refused, text-steps}
+use Rattle.text.specs.Put.{written-as, written-wider}
+use Rattle.cutter_text.proofs.answer.put_cut.Statement.{statement}
+use Rattle.cutter_text.proofs.answer.put_cut.Tie as tie
+
+returns : tie.Need-returns
+returns c = written-wider 29 textMost (written-as (text-refused _ (c .before .before .before .before .if1 .taken)) (c .before .before .put-refused .ensures)) (omega arith)
+
+returns-2 : tie.Need-returns-2
+returns-2 c = written-as (text-steps _ (c .before .before .before .before .before .if1 .left)) (c .before .before .put-accepted .ensures)
+
+pub put-cut-spec : {M : Type 1} → statement M
+put-cut-spec =
+    tie.close
+    (tie.spec
+    (λ c κs. search needs)
+    (λ c. search needs)
+    returns
+    (λ c. search needs)
+    (λ c κs. search needs)
+    (λ c. search needs)
+    returns-2)

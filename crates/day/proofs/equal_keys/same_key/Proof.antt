@@ -1,0 +1,32 @@
+-- `day::equal_keys::same_key` meets its contract.
+use borrow.Author.Needs.{needs}
+use Rattle.day.proofs.equal_keys.Keys.{other-participant, other-point, other-side, same-all}
+use Rattle.day.proofs.equal_keys.same_key.Statement.{statement}
+use Rattle.day.proofs.equal_keys.same_key.Tie as tie
+
+returns : tie.Need-returns
+returns c = other-participant _ _ _ _ (c .before .before .word-at .ensures) (c .before .word-at2 .ensures) (c .if1 .taken)
+
+returns-2 : tie.Need-returns-2
+returns-2 c = other-point _ _ _ _ (c .before .before .before .before .before .word-at .ensures) (c .before .before .before .before .word-at2 .ensures) (c .before .before .before .if1 .left) _ _ (c .before .before .word-at3 .ensures) (c .before .word-at4 .ensures) (c .if2 .taken)
+
+returns-3 : tie.Need-returns-3
+returns-3 c = other-side _ _ _ _ (c .before .before .before .before .before .before .before .before .word-at .ensures) (c .before .before .before .before .before .before .before .word-at2 .ensures) (c .before .before .before .before .before .before .if1 .left) _ _ (c .before .before .before .before .before .word-at3 .ensures) (c .before .before .before .before .word-at4 .ensures) (c .before .before .before .if2 .left) _ _ (c .before .before .word-at5 .ensures) (c .before .word-at6 .ensures) (c .if3 .taken)
+
+returns-4 : tie.Need-returns-4
+returns-4 c = same-all _ _ _ _ (c .before .before .before .before .before .before .before .before .word-at .ensures) (c .before .before .before .before .before .before .before .word-at2 .ensures) (c .before .before .before .before .before .before .if1 .left) _ _ (c .before .before .before .before .before .word-at3 .ensures) (c .before .before .before .before .word-at4 .ensures) (c .before .before .before .if2 .left) _ _ (c .before .before .word-at5 .ensures) (c .before .word-at6 .ensures) (c .if3 .left)
+
+pub same-key-spec : {M : Type 1} → statement M
+same-key-spec =
+    tie.close
+    (tie.spec
+    (λ c κs. search needs)
+    (λ c κs. search needs)
+    returns
+    (λ c κs. search needs)
+    (λ c κs. search needs)
+    returns-2
+    (λ c κs. search needs)
+    (λ c κs. search needs)
+    returns-3
+    returns-4)

@@ -1,0 +1,57 @@
+// Row 14: two lines with the same participant, point and side.
+use crate::header::line_of;
+ghost use mathlib.Core.Path.{_≡_};
+ghost use Prim.Native.Nat.{_+_, _*_, _≤_, _<_};
+ghost use lib.ListN.{length};
+ghost use Rattle.rules.specs.Fold.{first};
+ghost use Rattle.rules.specs.Refusals.{sameKey, keyFault};
+
+// Whether two lines have equal participant, point and side.
+fn same_key(v: &[u8], w: &[u8]) -> bool
+    requires { ⌜ (length (now v) ≡ 660) × (length (now w) ≡ 660) ⌝ }
+    ensures { λ r. ⌜ r ≡ sameKey (now (v .entry)) (now (w .entry)) ⌝ }
+{
+    if bytes_le::word_at(v, 0) != bytes_le::word_at(w, 0) {
+        return false;
+    }
+    if bytes_le::word_at(v, 4) != bytes_le::word_at(w, 4) {
+        return false;
+    }
+    if bytes_le::word_at(v, 8) != bytes_le::word_at(w, 8) {
+        return false;
+    }
+    true
+}
+
+// Row 14 of line k and those before it.
+fn key_number(day: &[u8], k: usize) -> u32
+    requires { ⌜ (k < 64) × (64 + 660 * (k + 1) ≤ length (now day)) ⌝ }
+    ensures { λ r. ⌜ r ≡ keyFault (now (day .entry)) k ⌝ }
+{
+    let w = line_of(day, k);
+    let mut i = 0;
+    while i < k {
+        let v = line_of(day, i);
+        if same_key(v, w) {
+            return 14;
+        }
+        i += 1;
+    }
+    0
+}
+
+// Row 14.
+pub fn keys_number(day: &[u8], n: usize) -> u32
+    requires { ⌜ (n ≤ 64) × (64 + 660 * n ≤ length (now day)) ⌝ }
+    ensures { λ r. ⌜ r ≡ first (keyFault (now (day .entry))) n ⌝ }
+{
+    let mut k = 0;
+    while k < n {
+        let fault = key_number(day, k);
+        if fault != 0 {
+            return fault;
+        }
+        k += 1;
+    }
+    0
+}

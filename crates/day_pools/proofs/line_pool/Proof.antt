@@ -1,0 +1,79 @@
+-- `day_pools::line_pool` meets its contract.
+use Prim.Native.Nat.{ℕ, _-_, _≤_}
+use mathlib.Core.Path.{_≡_, refl, _∙_, ap}
+use denote.Ref.{now}
+use native.Mathlib.Omega.{arith}
+use borrow.Author.Needs.{needs}
+use Rattle.rules.specs.Cutting.{prices, flags}
+use Rattle.rules.specs.Layout.{lineAt}
+use Rattle.rules.specs.Steps.{ends, lowerEnd}
+use Rattle.day_pools.specs.Sums.{poolTo, pool-whole}
+use Rattle.day_pools.specs.Sides.{stepPoolAt, linePool}
+use Rattle.day_pools.specs.Lines.{no-pool}
+use Rattle.day_pools.proofs.Laws.{line-lies, lent-length, lent-accepted, lent-line, count-is, count-few, step-built, step-sized, next-lower, pool-addable, pool-next}
+use Rattle.day_pools.proofs.line_pool.Statement.{statement}
+use Rattle.day_pools.proofs.line_pool.Tie as tie
+
+abbrev Inv-loop : tie.InvT-loop
+Inv-loop day k m t ends prices flags n pool₀ lower₀ j₀ pool lower j = (j ≤ n) × (lower ≡ lowerEnd (lineAt day k) j) × (pool ≡ poolTo j (stepPoolAt day k))
+
+abbrev μ-loop : tie.MeasureT-loop
+μ-loop day k m t ends prices flags n pool₀ lower₀ j₀ pool lower j = n - j
+
+line-of-requires : tie.Need-line-of-requires Inv-loop μ-loop
+line-of-requires c κs = line-lies (now (c .before .args .day)) (c .before .pre .0) (c .before .args .k) (c .before .pre .1)
+
+totals-of-requires : tie.Need-totals-of-requires Inv-loop μ-loop
+totals-of-requires c κs = (lent-length (now (c .before .before .args .day)) (c .before .before .pre .0) (c .before .before .args .k) (c .before .before .pre .1) _ (c .line-of .ensures), lent-accepted (now (c .before .before .args .day)) (c .before .before .pre .0) (c .before .before .args .k) (c .before .before .pre .1) _ (c .line-of .ensures))
+
+steps-requires : tie.Need-steps-requires Inv-loop μ-loop
+steps-requires c κs = lent-line (now (c .before .before .before .args .day)) (c .before .before .before .pre .0) (c .before .before .before .args .k) (c .before .before .before .pre .1) _ (c .before .line-of .ensures)
+
+loop-holds : tie.Need-loop-holds Inv-loop μ-loop
+unfolding lowerEnd
+loop-holds c = (omega arith, refl, c .empty-pool .ensures ∙ no-pool (stepPoolAt (now (c .before .before .before .before .before .before .before .before .before .args .day)) (c .before .before .before .before .before .before .before .before .before .args .k)))
+
+array-read-upper : tie.Need-array-read-upper Inv-loop μ-loop
+array-read-upper c = omega (arith, count-few (now (c .before .before .before .before .before .before .before .before .before .before .before .args .day)) (c .before .before .before .before .before .before .before .before .before .before .before .pre .0) (c .before .before .before .before .before .before .before .before .before .before .before .args .k) (c .before .before .before .before .before .before .before .before .before .before .before .pre .1) _ (c .before .before .before .before .before .before .before .before .before .line-of .ensures) _ (c .before .before .before .before .before .before .before .steps .ensures))
+
+price-row-requires : tie.Need-price-row-requires Inv-loop μ-loop
+price-row-requires c κs = omega (arith, count-few (now (c .before .before .before .before .before .before .before .before .before .before .before .before .args .day)) (c .before .before .before .before .before .before .before .before .before .before .before .before .pre .0) (c .before .before .before .before .before .before .before .before .before .before .before .before .args .k) (c .before .before .before .before .before .before .before .before .before .before .before .before .pre .1) _ (c .before .before .before .before .before .before .before .before .before .before .line-of .ensures) _ (c .before .before .before .before .before .before .before .before .steps .ensures))
+
+flag-row-requires : tie.Need-flag-row-requires Inv-loop μ-loop
+flag-row-requires c κs = omega (arith, count-few (now (c .before .before .before .before .before .before .before .before .before .before .before .before .before .args .day)) (c .before .before .before .before .before .before .before .before .before .before .before .before .before .pre .0) (c .before .before .before .before .before .before .before .before .before .before .before .before .before .args .k) (c .before .before .before .before .before .before .before .before .before .before .before .before .before .pre .1) _ (c .before .before .before .before .before .before .before .before .before .before .before .line-of .ensures) _ (c .before .before .before .before .before .before .before .before .before .steps .ensures))
+
+pool-with-requires : tie.Need-pool-with-requires Inv-loop μ-loop
+pool-with-requires c κs = (step-sized (now (c .before .before .before .before .before .before .before .before .before .before .before .before .before .before .before .args .day)) (c .before .before .before .before .before .before .before .before .before .before .before .before .before .before .before .pre .0) (c .before .before .before .before .before .before .before .before .before .before .before .before .before .before .before .args .k) (c .before .before .before .before .before .before .before .before .before .before .before .before .before .before .before .pre .1) _ (c .before .before .before .before .before .before .before .before .before .before .before .before .before .line-of .ensures) _ (c .before .before .before .before .before .before .before .before .before .before .before .steps .ensures) (c .before .before .before .before .before .loop .j) (omega arith) _ (step-built (now (c .before .before .before .before .before .before .before .before .before .before .before .before .before .before .before .args .day)) (c .before .before .before .before .before .before .before .before .before .before .before .before .before .before .before .pre .0) (c .before .before .before .before .before .before .before .before .before .before .before .before .before .before .before .args .k) (c .before .before .before .before .before .before .before .before .before .before .before .before .before .before .before .pre .1) _ (c .before .before .before .before .before .before .before .before .before .before .before .before .before .line-of .ensures) _ (c .before .before .before .before .before .before .before .before .before .before .before .steps .ensures) (c .before .before .before .before .before .loop .j) (omega arith) _ _ _ _ _ _ _ (c .before .before .before .before .before .before .before .before .before .before .before .before .before .before .before .pre .2) (c .before .before .before .before .before .before .before .before .before .before .before .before .totals-of .ensures) (c .before .before .before .before .before .loop .inv .1) refl (c .before .before .price-row .ensures) (c .before .flag-row .ensures) (c .step-of .ensures)), pool-addable (now (c .before .before .before .before .before .before .before .before .before .before .before .before .before .before .before .args .day)) (c .before .before .before .before .before .before .before .before .before .before .before .before .before .before .before .pre .0) (c .before .before .before .before .before .before .before .before .before .before .before .before .before .before .before .args .k) (c .before .before .before .before .before .before .before .before .before .before .before .before .before .before .before .pre .1) _ (c .before .before .before .before .before .before .before .before .before .before .before .before .before .line-of .ensures) _ (c .before .before .before .before .before .before .before .before .before .before .before .steps .ensures) (c .before .before .before .before .before .loop .j) (omega arith) _ _ (step-built (now (c .before .before .before .before .before .before .before .before .before .before .before .before .before .before .before .args .day)) (c .before .before .before .before .before .before .before .before .before .before .before .before .before .before .before .pre .0) (c .before .before .before .before .before .before .before .before .before .before .before .before .before .before .before .args .k) (c .before .before .before .before .before .before .before .before .before .before .before .before .before .before .before .pre .1) _ (c .before .before .before .before .before .before .before .before .before .before .before .before .before .line-of .ensures) _ (c .before .before .before .before .before .before .before .before .before .before .before .steps .ensures) (c .before .before .before .before .before .loop .j) (omega arith) _ _ _ _ _ _ _ (c .before .before .before .before .before .before .before .before .before .before .before .before .before .before .before .pre .2) (c .before .before .before .before .before .before .before .before .before .before .before .before .totals-of .ensures) (c .before .before .before .before .before .loop .inv .1) refl (c .before .before .price-row .ensures) (c .before .flag-row .ensures) (c .step-of .ensures)) (c .before .before .before .before .before .loop .inv .2), pool-whole (c .before .before .before .before .before .loop .j) (stepPoolAt (now (c .before .before .before .before .before .before .before .before .before .before .before .before .before .before .before .args .day)) (c .before .before .before .before .before .before .before .before .before .before .before .before .before .before .before .args .k)) _ (c .before .before .before .before .before .loop .inv .2))
+
+add-j : tie.Need-add-j Inv-loop μ-loop
+add-j c = record { fits = omega (arith, count-few (now (c .before .before .before .before .before .before .before .before .before .before .before .before .before .before .before .before .args .day)) (c .before .before .before .before .before .before .before .before .before .before .before .before .before .before .before .before .pre .0) (c .before .before .before .before .before .before .before .before .before .before .before .before .before .before .before .before .args .k) (c .before .before .before .before .before .before .before .before .before .before .before .before .before .before .before .before .pre .1) _ (c .before .before .before .before .before .before .before .before .before .before .before .before .before .before .line-of .ensures) _ (c .before .before .before .before .before .before .before .before .before .before .before .before .steps .ensures)) }
+
+loop-again : tie.Need-loop-again Inv-loop μ-loop
+loop-again c = (omega arith, next-lower (now (c .before .before .before .before .before .before .before .before .before .before .before .before .before .before .before .before .args .day)) (c .before .before .before .before .before .before .before .before .before .before .before .before .before .before .before .before .pre .0) (c .before .before .before .before .before .before .before .before .before .before .before .before .before .before .before .before .args .k) (c .before .before .before .before .before .before .before .before .before .before .before .before .before .before .before .before .pre .1) _ (c .before .before .before .before .before .before .before .before .before .before .before .before .before .before .line-of .ensures) _ (c .before .before .before .before .before .before .before .before .before .before .before .before .steps .ensures) (c .before .before .before .before .before .before .loop .j) (omega arith) _ refl, pool-next (now (c .before .before .before .before .before .before .before .before .before .before .before .before .before .before .before .before .args .day)) (c .before .before .before .before .before .before .before .before .before .before .before .before .before .before .before .before .pre .0) (c .before .before .before .before .before .before .before .before .before .before .before .before .before .before .before .before .args .k) (c .before .before .before .before .before .before .before .before .before .before .before .before .before .before .before .before .pre .1) _ (c .before .before .before .before .before .before .before .before .before .before .before .before .before .before .line-of .ensures) _ (c .before .before .before .before .before .before .before .before .before .before .before .before .steps .ensures) (c .before .before .before .before .before .before .loop .j) (omega arith) _ _ _ (step-built (now (c .before .before .before .before .before .before .before .before .before .before .before .before .before .before .before .before .args .day)) (c .before .before .before .before .before .before .before .before .before .before .before .before .before .before .before .before .pre .0) (c .before .before .before .before .before .before .before .before .before .before .before .before .before .before .before .before .args .k) (c .before .before .before .before .before .before .before .before .before .before .before .before .before .before .before .before .pre .1) _ (c .before .before .before .before .before .before .before .before .before .before .before .before .before .before .line-of .ensures) _ (c .before .before .before .before .before .before .before .before .before .before .before .before .steps .ensures) (c .before .before .before .before .before .before .loop .j) (omega arith) _ _ _ _ _ _ _ (c .before .before .before .before .before .before .before .before .before .before .before .before .before .before .before .before .pre .2) (c .before .before .before .before .before .before .before .before .before .before .before .before .before .totals-of .ensures) (c .before .before .before .before .before .before .loop .inv .1) refl (c .before .before .before .price-row .ensures) (c .before .before .flag-row .ensures) (c .before .step-of .ensures)) (c .before .before .before .before .before .before .loop .inv .2) (c .pool-with .ensures))
+
+returns : tie.Need-returns Inv-loop μ-loop
+unfolding linePool
+returns c = c .before .loop .inv .2 ∙ ap (λ (z : ℕ). poolTo z (stepPoolAt (now (c .before .before .before .before .before .before .before .before .before .before .before .args .day)) (c .before .before .before .before .before .before .before .before .before .before .before .args .k))) (omega (arith, count-is (now (c .before .before .before .before .before .before .before .before .before .before .before .args .day)) (c .before .before .before .before .before .before .before .before .before .before .before .pre .0) (c .before .before .before .before .before .before .before .before .before .before .before .args .k) (c .before .before .before .before .before .before .before .before .before .before .before .pre .1) _ (c .before .before .before .before .before .before .before .before .before .line-of .ensures) _ (c .before .before .before .before .before .before .before .steps .ensures)))
+
+pub line-pool-spec : {M : Type 1} → statement M
+line-pool-spec =
+    tie.close
+    (tie.spec
+    Inv-loop
+    μ-loop
+    line-of-requires
+    totals-of-requires
+    steps-requires
+    (λ c. search needs)
+    (λ c κs. search needs)
+    loop-holds
+    (λ c. search needs)
+    array-read-upper
+    price-row-requires
+    flag-row-requires
+    (λ c κs. search needs)
+    pool-with-requires
+    add-j
+    (λ c. search needs)
+    loop-again
+    returns)

@@ -1,0 +1,52 @@
+-- `day_pools::side_pool` meets its contract.
+use Prim.Native.Nat.{_-_, _≤_}
+use mathlib.Core.Path.{_≡_, _∙_}
+use denote.Ref.{now}
+use native.Mathlib.Omega.{arith}
+use borrow.Author.Needs.{needs}
+use Rattle.day_pools.specs.Sums.{poolTo}
+use Rattle.day_pools.specs.Sides.{sidePart}
+use Rattle.day_pools.specs.Lines.{no-pool}
+use Rattle.day_pools.proofs.Laws.{side-addable, side-next, side-whole}
+use Rattle.day_pools.proofs.side_pool.Statement.{statement}
+use Rattle.day_pools.proofs.side_pool.Tie as tie
+
+abbrev Inv-loop : tie.InvT-loop
+Inv-loop day m sd n pool₀ k₀ pool k = (k ≤ n) × (pool ≡ poolTo k (sidePart day sd))
+
+abbrev μ-loop : tie.MeasureT-loop
+μ-loop day m sd n pool₀ k₀ pool k = n - k
+
+line-count-requires : tie.Need-line-count-requires Inv-loop μ-loop
+line-count-requires c κs = omega (arith, c .before .pre .0 .header .length-least)
+
+loop-holds : tie.Need-loop-holds Inv-loop μ-loop
+loop-holds c = (omega arith, c .empty-pool .ensures ∙ no-pool (sidePart (now (c .before .before .before .args .day)) (c .before .before .before .args .sd)))
+
+side-part-requires : tie.Need-side-part-requires Inv-loop μ-loop
+side-part-requires c κs = (c .before .before .before .before .before .pre .0, omega (arith, c .before .before .before .line-count .ensures), c .before .before .before .before .before .pre .1)
+
+pool-add-requires : tie.Need-pool-add-requires Inv-loop μ-loop
+pool-add-requires c κs = side-addable (now (c .before .before .before .before .before .before .args .day)) (c .before .before .before .before .before .before .pre .0) (c .before .before .before .before .before .before .args .sd) (c .before .before .loop .k) (omega (arith, c .before .before .before .before .line-count .ensures)) _ _ (c .before .before .loop .inv .1) (c .side-part .ensures)
+
+loop-again : tie.Need-loop-again Inv-loop μ-loop
+loop-again c = (omega arith, side-next (now (c .before .before .before .before .before .before .before .args .day)) (c .before .before .before .before .before .before .before .pre .0) (c .before .before .before .before .before .before .before .args .sd) (c .before .before .before .loop .k) _ _ _ (c .before .before .before .loop .inv .1) (c .before .side-part .ensures) (c .pool-add .ensures))
+
+returns : tie.Need-returns Inv-loop μ-loop
+returns c = side-whole (now (c .before .before .before .before .before .args .day)) (c .before .before .before .before .before .args .sd) _ (c .before .loop .k) _ (c .before .before .before .line-count .ensures) (c .before .loop .inv .0) (c .loop-test .left) (c .before .loop .inv .1)
+
+pub side-pool-spec : {M : Type 1} → statement M
+side-pool-spec =
+    tie.close
+    (tie.spec
+    Inv-loop
+    μ-loop
+    line-count-requires
+    (λ c κs. search needs)
+    loop-holds
+    side-part-requires
+    pool-add-requires
+    (λ c. search needs)
+    (λ c. search needs)
+    loop-again
+    returns)

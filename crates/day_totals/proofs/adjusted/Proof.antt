@@ -1,0 +1,118 @@
+-- `day_totals::adjusted` meets its contract: each call's arguments are what its definition takes, read back from the bits of locals.
+use mathlib.Core.Path.{sym}
+use native.Mathlib.Omega.{arith}
+use borrow.Author.Needs.{needs}
+use Rattle.day_totals.specs.Parts.{least-last, carried-first}
+use Rattle.day_totals.specs.Sizes.{read-back, least-fits, carried-fits, adjusted-fits}
+use Rattle.day_totals.proofs.adjusted.Statement.{statement}
+use Rattle.day_totals.proofs.adjusted.Tie as tie
+
+least-requires : tie.Need-least-requires
+least-requires c κs =
+    let t = c .before .args .t1 in
+    let b = c .before .pre in
+    (b, (omega arith, read-back (sym (least-last t)) (least-fits t b 4 (omega arith))))
+
+least-requires-2 : tie.Need-least-requires-2
+least-requires-2 c κs =
+    let t = c .before .before .args .t1 in
+    let b = c .before .before .pre in
+    (b, (omega arith, read-back (c .least .ensures) (least-fits t b 3 (omega arith))))
+
+least-requires-3 : tie.Need-least-requires-3
+least-requires-3 c κs =
+    let t = c .before .before .before .args .t1 in
+    let b = c .before .before .before .pre in
+    (b, (omega arith, read-back (c .least2 .ensures) (least-fits t b 2 (omega arith))))
+
+least-requires-4 : tie.Need-least-requires-4
+least-requires-4 c κs =
+    let t = c .before .before .before .before .args .t1 in
+    let b = c .before .before .before .before .pre in
+    (b, (omega arith, read-back (c .least3 .ensures) (least-fits t b 1 (omega arith))))
+
+share-requires : tie.Need-share-requires
+share-requires c κs =
+    let t = c .before .before .before .before .before .args .t1 in
+    let b = c .before .before .before .before .before .pre in
+    (b, (omega arith, (read-back (c .least4 .ensures) (least-fits t b 0 (omega arith)), sym (carried-first t))))
+
+carry-requires : tie.Need-carry-requires
+carry-requires c κs =
+    let t = c .before .before .before .before .before .before .args .t1 in
+    let b = c .before .before .before .before .before .before .pre in
+    (b, (omega arith, (sym (carried-first t), read-back (c .share .ensures) (adjusted-fits t b 0 (omega arith)))))
+
+share-requires-2 : tie.Need-share-requires-2
+share-requires-2 c κs =
+    let t = c .before .before .before .before .before .before .before .args .t1 in
+    let b = c .before .before .before .before .before .before .before .pre in
+    (b, (omega arith, (read-back (c .before .before .before .least3 .ensures) (least-fits t b 1 (omega arith)), read-back (c .carry .ensures) (carried-fits t b 1 (omega arith)))))
+
+carry-requires-2 : tie.Need-carry-requires-2
+carry-requires-2 c κs =
+    let t = c .before .before .before .before .before .before .before .before .args .t1 in
+    let b = c .before .before .before .before .before .before .before .before .pre in
+    (b, (omega arith, (read-back (c .before .carry .ensures) (carried-fits t b 1 (omega arith)), read-back (c .share2 .ensures) (adjusted-fits t b 1 (omega arith)))))
+
+share-requires-3 : tie.Need-share-requires-3
+share-requires-3 c κs =
+    let t = c .before .before .before .before .before .before .before .before .before .args .t1 in
+    let b = c .before .before .before .before .before .before .before .before .before .pre in
+    (b, (omega arith, (read-back (c .before .before .before .before .before .before .least2 .ensures) (least-fits t b 2 (omega arith)), read-back (c .carry2 .ensures) (carried-fits t b 2 (omega arith)))))
+
+carry-requires-3 : tie.Need-carry-requires-3
+carry-requires-3 c κs =
+    let t = c .before .before .before .before .before .before .before .before .before .before .args .t1 in
+    let b = c .before .before .before .before .before .before .before .before .before .before .pre in
+    (b, (omega arith, (read-back (c .before .carry2 .ensures) (carried-fits t b 2 (omega arith)), read-back (c .share3 .ensures) (adjusted-fits t b 2 (omega arith)))))
+
+share-requires-4 : tie.Need-share-requires-4
+share-requires-4 c κs =
+    let t = c .before .before .before .before .before .before .before .before .before .before .before .args .t1 in
+    let b = c .before .before .before .before .before .before .before .before .before .before .before .pre in
+    (b, (omega arith, (read-back (c .before .before .before .before .before .before .before .before .before .least .ensures) (least-fits t b 3 (omega arith)), read-back (c .carry3 .ensures) (carried-fits t b 3 (omega arith)))))
+
+carry-requires-4 : tie.Need-carry-requires-4
+carry-requires-4 c κs =
+    let t = c .before .before .before .before .before .before .before .before .before .before .before .before .args .t1 in
+    let b = c .before .before .before .before .before .before .before .before .before .before .before .before .pre in
+    (b, (omega arith, (read-back (c .before .carry3 .ensures) (carried-fits t b 3 (omega arith)), read-back (c .share4 .ensures) (adjusted-fits t b 3 (omega arith)))))
+
+share-requires-5 : tie.Need-share-requires-5
+share-requires-5 c κs =
+    let t = c .before .before .before .before .before .before .before .before .before .before .before .before .before .args .t1 in
+    let b = c .before .before .before .before .before .before .before .before .before .before .before .before .before .pre in
+    (b, (omega arith, (read-back (sym (least-last t)) (least-fits t b 4 (omega arith)), read-back (c .carry4 .ensures) (carried-fits t b 4 (omega arith)))))
+
+returns : tie.Need-returns
+returns c =
+    let t = c .before .before .before .before .before .before .before .before .before .before .before .before .before .before .args .t1 in
+    let b = c .before .before .before .before .before .before .before .before .before .before .before .before .before .before .pre in
+    rw (
+      read-back (c .before .before .before .before .before .before .before .before .share .ensures) (adjusted-fits t b 0 (omega arith)),
+      read-back (c .before .before .before .before .before .before .share2 .ensures) (adjusted-fits t b 1 (omega arith)),
+      read-back (c .before .before .before .before .share3 .ensures) (adjusted-fits t b 2 (omega arith)),
+      read-back (c .before .before .share4 .ensures) (adjusted-fits t b 3 (omega arith)),
+      read-back (c .share5 .ensures) (adjusted-fits t b 4 (omega arith)),
+    )
+
+pub adjusted-spec : {M : Type 1} → statement M
+adjusted-spec =
+    tie.close
+    (tie.spec
+    (λ c. search needs)
+    least-requires
+    least-requires-2
+    least-requires-3
+    least-requires-4
+    share-requires
+    carry-requires
+    share-requires-2
+    carry-requires-2
+    share-requires-3
+    carry-requires-3
+    share-requires-4
+    carry-requires-4
+    share-requires-5
+    returns)

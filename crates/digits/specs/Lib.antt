@@ -1,4 +1,0 @@
--- Definitions and the laws on them.
-pub mod Put
-pub mod Digits
-pub mod Signed

@@ -1,0 +1,30 @@
+-- `engine_c::part::mewikofu_line_part` meets its contract: an empty part, or the line.
+use denote.Ref.{now}
+use native.Mathlib.Omega.{arith}
+use borrow.Author.Needs.{needs}
+use Rattle.engine_c.specs.Parts.{part-none, part-some}
+use Rattle.day.proofs.header.Header.{part-bounds}
+use Rattle.engine_c.proofs.part.mewikofu_line_part.Statement.{statement}
+use Rattle.engine_c.proofs.part.mewikofu_line_part.Tie as tie
+
+returns : tie.Need-returns
+returns c = part-none (now (c .before .before .before .args .day)) _ _ (c .before .line-part-number .ensures) (c .if1 .taken)
+
+mul-at : tie.Need-mul-at
+mul-at c = record { fits = omega (arith, part-bounds (now (c .before .before .before .args .day)) (c .before .before .before .args .k) _ (c .before .line-part-number .ensures) (c .if1 .left) .line-most) }
+
+add-at : tie.Need-add-at
+add-at c = record { fits = omega (arith, part-bounds (now (c .before .before .before .args .day)) (c .before .before .before .args .k) _ (c .before .line-part-number .ensures) (c .if1 .left) .line-most) }
+
+returns-2 : tie.Need-returns-2
+returns-2 c = part-some (now (c .before .before .before .args .day)) _ _ (c .before .line-part-number .ensures) (c .if1 .left)
+
+pub mewikofu-line-part-spec : {M : Type 1} → statement M
+mewikofu-line-part-spec =
+    tie.close
+    (tie.spec
+    (λ c κs. search needs)
+    returns
+    mul-at
+    add-at
+    returns-2)

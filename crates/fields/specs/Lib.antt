@@ -1,2 +1,0 @@
--- Rows 11 to 13 of a line's refusals as one definition.
-pub mod Parts

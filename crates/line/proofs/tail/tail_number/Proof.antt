@@ -1,0 +1,42 @@
+-- `line::tail::tail_number` meets its contract.
+use Prim.Native.Nat.{ℕ}
+use mathlib.Core.Path.{_∙_, ap}
+use mathlib.Core.List.{List}
+use denote.Ref.{now}
+use borrow.Author.Needs.{needs}
+use Rattle.rules.specs.Fold.{five}
+use Rattle.laws.specs.Folds.{part-stops, part-passes}
+use Rattle.line.specs.Faults.{hedgeFault}
+use Rattle.line.specs.Tail.{tailFault}
+use Rattle.line_quantities.specs.Sums.{tableTotal}
+use Rattle.line.proofs.tail.Laws.{totals-are}
+use Rattle.line.proofs.tail.tail_number.Statement.{statement}
+use Rattle.line.proofs.tail.tail_number.Tie as tie
+
+returns : tie.Need-returns
+unfolding tailFault
+returns c = part-stops _ _ _ (c .before .hedge-number .ensures ∙ ap (hedgeFault (now (c .before .before .before .before .args .line))) (c .before .before .greatest-break .ensures)) (c .if1 .taken)
+
+returns-2 : tie.Need-returns-2
+unfolding tailFault
+returns-2 c = part-passes _ _ _ _ (c .before .before .before .before .before .before .before .hedge-number .ensures ∙ ap (hedgeFault (now (c .before .before .before .before .before .before .before .before .before .before .args .line))) (c .before .before .before .before .before .before .before .before .greatest-break .ensures)) (c .before .before .before .before .before .before .if1 .left) (part-stops _ _ _ (c .before .totals-number .ensures ∙ (totals-are _ _ _ _ (c .before .before .before .before .before .wide .ensures .0 ∙ c .before .before .before .before .before .before .before .before .greatest-break .ensures) (c .before .before .before .before .pricing-totals .ensures) (c .before .before .operating-totals .ensures ∙ ap (λ (t : List (List ℕ)). five (tableTotal t)) (c .before .before .before .operating-table .ensures)))) (c .if2 .taken))
+
+returns-3 : tie.Need-returns-3
+unfolding tailFault
+returns-3 c = part-passes _ _ _ _ (c .before .before .before .before .before .before .before .before .hedge-number .ensures ∙ ap (hedgeFault (now (c .before .before .before .before .before .before .before .before .before .before .before .args .line))) (c .before .before .before .before .before .before .before .before .before .greatest-break .ensures)) (c .before .before .before .before .before .before .before .if1 .left) (part-passes _ _ _ _ (c .before .before .totals-number .ensures ∙ (totals-are _ _ _ _ (c .before .before .before .before .before .before .wide .ensures .0 ∙ c .before .before .before .before .before .before .before .before .before .greatest-break .ensures) (c .before .before .before .before .before .pricing-totals .ensures) (c .before .before .before .operating-totals .ensures ∙ ap (λ (t : List (List ℕ)). five (tableTotal t)) (c .before .before .before .before .operating-table .ensures)))) (c .before .if2 .left) (c .actuals-number .ensures))
+
+pub tail-number-spec : {M : Type 1} → statement M
+tail-number-spec =
+    tie.close
+    (tie.spec
+    (λ c κs. search needs)
+    (λ c κs. search needs)
+    returns
+    (λ c κs. search needs)
+    (λ c κs. search needs)
+    (λ c κs. search needs)
+    (λ c κs. search needs)
+    (λ c κs. search needs)
+    returns-2
+    (λ c κs. search needs)
+    returns-3)

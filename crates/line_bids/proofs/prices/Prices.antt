@@ -1,0 +1,70 @@
+-- Rows 9 and 10, from what the code has read.
+use Prim.Native.Nat.{ℕ, zero, suc, _-_}
+use native.Mathlib.Omega.{arith}
+use mathlib.Core.Path.{_≡_, refl, sym, _∙_, ap}
+use mathlib.Core.List.{List}
+use mathlib.Core.Bool.{Bool, true, false}
+use borrow.Author.Tests.{lt-ltb, le-ltb}
+use Rattle.rules.specs.Fold.{first}
+use Rattle.rules.specs.Layout.{side, bidCount, bidPrice}
+use Rattle.rules.specs.Refusals.{outOfOrder, orderFault, priceFault, unusedFault}
+use Rattle.laws.specs.Folds.{stops, passes, ends-at, none-at, part-stops, part-passes}
+use Rattle.line_bids.specs.declared.units.Price.{Price}
+use Rattle.line_bids.specs.declared.units.PriceRead.{PriceRead}
+use Rattle.line_bids.specs.Kinds.{priceRead}
+use Rattle.line_bids.proofs.units.Reading.{price-within-is, price-above-is}
+use Rattle.line_bids.specs.Slots.{slotsFault, bit}
+
+-- row 9 at one step
+pub order-first : (w : List ℕ) (s j : ℕ) → j ≡ 0 → 0 ≡ orderFault w s j
+unfolding orderFault
+order-first w s zero h = refl
+order-first w s (suc j) h = absurd (omega arith)
+
+bit-one : (t : Bool) → bit t ≡ 1 → t ≡ true
+bit-one true e = refl
+bit-one false e = absurd (omega arith)
+
+bit-other : (t : Bool) → (bit t ≡ 1 → ⊥) → t ≡ false
+bit-other true e = absurd (e refl)
+bit-other false e = refl
+
+-- the test's value at the line's side and prices
+order-there : (w : List ℕ) (s j sd p q : ℕ) → sd ≡ side w → p ≡ bidPrice w s (suc j - 1) → q ≡ bidPrice w s (suc j)
+    → outOfOrder sd p q ≡ outOfOrder (side w) (bidPrice w s j) (bidPrice w s (suc j))
+order-there w s j sd p q a b c =
+    let e : p ≡ bidPrice w s j = b ∙ ap (bidPrice w s) (omega arith) in
+    rw (a, e, c)
+
+pub order-bad : (w : List ℕ) (s j sd p q x : ℕ) → (j ≡ 0 → ⊥) → sd ≡ side w → p ≡ bidPrice w s (j - 1) → q ≡ bidPrice w s j
+    → x ≡ bit (outOfOrder sd p q) → x ≡ 1 → 9 ≡ orderFault w s j
+unfolding orderFault
+order-bad w s zero sd p q x n a b c e h = absurd (n refl)
+order-bad w s (suc j) sd p q x n a b c e h =
+    ends-at 9 _ (sym (order-there w s j sd p q a b c) ∙ bit-one (outOfOrder sd p q) (sym e ∙ h))
+
+pub order-good : (w : List ℕ) (s j sd p q x : ℕ) → (j ≡ 0 → ⊥) → sd ≡ side w → p ≡ bidPrice w s (j - 1) → q ≡ bidPrice w s j
+    → x ≡ bit (outOfOrder sd p q) → (x ≡ 1 → ⊥) → 0 ≡ orderFault w s j
+unfolding orderFault
+order-good w s zero sd p q x n a b c e h = absurd (n refl)
+order-good w s (suc j) sd p q x n a b c e h =
+    none-at 9 _ (sym (order-there w s j sd p q a b c) ∙ bit-other (outOfOrder sd p q) (λ g. h (e ∙ g)))
+
+pub price-fault-above : (w : List ℕ) (s j : ℕ) → PriceRead.Above ≡ priceRead (bidPrice w s j) → 9 ≡ priceFault w s j
+unfolding priceFault
+price-fault-above w s j h = stops 8 _ _ (lt-ltb 10000000 (bidPrice w s j) (price-above-is _ h))
+
+pub price-fault-within : (w : List ℕ) (s j : ℕ) (q : Price) (x : ℕ) → PriceRead.Within q ≡ priceRead (bidPrice w s j) → x ≡ orderFault w s j → x ≡ priceFault w s j
+unfolding priceFault
+price-fault-within w s j q x h e = passes 9 _ _ _ (le-ltb 10000000 (bidPrice w s j) (price-within-is _ q h)) e
+
+-- prices, then unused slots
+module _ (w : List ℕ) (s n : ℕ) (count : n ≡ bidCount w s) where
+  pub slots-stops : (x : ℕ) → x ≡ first (priceFault w s) n → (x ≡ 0 → ⊥) → x ≡ slotsFault w s
+  unfolding slotsFault
+  slots-stops x e h = part-stops _ _ _ (e ∙ ap (first (priceFault w s)) count) h
+
+  pub slots-passes : (x y : ℕ) → x ≡ first (priceFault w s) n → x ≡ 0 → y ≡ first (unusedFault w s) (11 - n) → y ≡ slotsFault w s
+  unfolding slotsFault
+  slots-passes x y e z u =
+      part-passes _ _ _ x (e ∙ ap (first (priceFault w s)) count) z (u ∙ ap (λ (k : ℕ). first (unusedFault w s) (11 - k)) count)

@@ -1,0 +1,37 @@
+-- `line_bids::prices::order_number` meets its contract.
+use borrow.Author.Needs.{needs}
+use Rattle.line_bids.proofs.prices.Prices.{order-first, order-bad, order-good}
+use Rattle.line_bids.proofs.prices.order_number.Statement.{statement}
+use Rattle.line_bids.proofs.prices.order_number.Tie as tie
+
+returns : tie.Need-returns
+returns c = order-first _ _ _ (c .if1 .taken)
+
+returns-2 : tie.Need-returns-2
+returns-2 c = order-bad _ _ _ _ _ _ _ (c .before .before .before .before .before .if1 .left) (c .before .before .word-at3 .ensures) (c .before .before .before .before .word-at .ensures) (c .before .before .before .word-at2 .ensures) (c .before .out-of-order .ensures) (c .if2 .taken)
+
+returns-3 : tie.Need-returns-3
+returns-3 c = order-good _ _ _ _ _ _ _ (c .before .before .before .before .before .if1 .left) (c .before .before .word-at3 .ensures) (c .before .before .before .before .word-at .ensures) (c .before .before .before .word-at2 .ensures) (c .before .out-of-order .ensures) (c .if2 .left)
+
+pub order-number-spec : {M : Type 1} → statement M
+order-number-spec =
+    tie.close
+    (tie.spec
+    returns
+    (λ c. search needs)
+    (λ c. search needs)
+    (λ c. search needs)
+    (λ c. search needs)
+    (λ c. search needs)
+    (λ c. search needs)
+    (λ c κs. search needs)
+    (λ c. search needs)
+    (λ c. search needs)
+    (λ c. search needs)
+    (λ c. search needs)
+    (λ c. search needs)
+    (λ c κs. search needs)
+    (λ c κs. search needs)
+    (λ c κs. search needs)
+    returns-2
+    returns-3)

@@ -1,0 +1,19 @@
+-- `line_bids::units::Quantity::read` meets its contract.
+use borrow.Author.Needs.{needs}
+use Rattle.line_bids.proofs.units.Reading.{quantity-within, quantity-above}
+use Rattle.line_bids.proofs.units.Quantity.read.Statement.{statement}
+use Rattle.line_bids.proofs.units.Quantity.read.Tie as tie
+
+returns : tie.Need-returns
+returns c = quantity-within _ _ (c .before .word-at .ensures) (c .if1 .taken)
+
+returns-2 : tie.Need-returns-2
+returns-2 c = quantity-above _ _ (c .before .word-at .ensures) (c .if1 .left)
+
+pub read-spec : {M : Type 1} → statement M
+read-spec =
+    tie.close
+    (tie.spec
+    (λ c κs. search needs)
+    returns
+    returns-2)

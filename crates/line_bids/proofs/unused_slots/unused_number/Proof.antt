@@ -1,0 +1,61 @@
+-- `line_bids::unused_slots::unused_number` meets its contract.
+use Prim.Native.Nat.{_-_, _≤_}
+use mathlib.Core.Path.{_≡_, refl}
+use native.Mathlib.Omega.{arith}
+use borrow.Author.Needs.{needs}
+use Rattle.rules.specs.Fold.{first}
+use Rattle.rules.specs.Refusals.{unusedFault}
+use Rattle.laws.specs.Folds.{fold-begins, fold-goes, fold-stops, fold-ends}
+use Rattle.line_bids.proofs.unused_slots.Unused.{unused-break-is, unused-price-is, unused-none-is}
+use Rattle.line_bids.proofs.unused_slots.unused_number.Statement.{statement}
+use Rattle.line_bids.proofs.unused_slots.unused_number.Tie as tie
+
+abbrev Inv-loop : tie.InvT-loop
+Inv-loop line s count i₀ i = (i ≤ 11 - count) × (first (unusedFault line s) i ≡ 0)
+
+abbrev μ-loop : tie.MeasureT-loop
+μ-loop line s count i₀ i = 11 - count - i
+
+loop-holds : tie.Need-loop-holds Inv-loop μ-loop
+loop-holds c = fold-begins _ _ _ refl
+
+returns : tie.Need-returns Inv-loop μ-loop
+returns c = fold-stops _ _ _ 10 (c .before .before .before .loop .inv .1) (c .before .before .loop-test .taken) (unused-break-is _ _ _ _ _ (c .before .before .before .before .before .pre .3) (c .before .word-at .ensures) (c .if1 .taken)) (λ e. omega arith)
+
+returns-2 : tie.Need-returns-2 Inv-loop μ-loop
+returns-2 c = fold-stops _ _ _ 10 (c .before .before .before .before .before .loop .inv .1) (c .before .before .before .before .loop-test .taken) (unused-price-is _ _ _ _ _ _ (c .before .before .before .before .before .before .before .pre .3) (c .before .before .before .word-at .ensures) (c .before .before .if1 .left) (c .before .word-at2 .ensures) (c .if2 .taken)) (λ e. omega arith)
+
+loop-again : tie.Need-loop-again Inv-loop μ-loop
+loop-again c = fold-goes _ _ _ 0 (c .before .before .before .before .before .loop .inv .1) (c .before .before .before .before .loop-test .taken) (unused-none-is _ _ _ _ _ _ (c .before .before .before .before .before .before .before .pre .3) (c .before .before .before .word-at .ensures) (c .before .before .if1 .left) (c .before .word-at2 .ensures) (c .if2 .left)) refl
+
+returns-3 : tie.Need-returns-3 Inv-loop μ-loop
+returns-3 c = fold-ends _ _ _ (c .before .loop .inv .1) (c .before .loop .inv .0) (c .loop-test .left)
+
+pub unused-number-spec : {M : Type 1} → statement M
+unused-number-spec =
+    tie.close
+    (tie.spec
+    Inv-loop
+    μ-loop
+    loop-holds
+    (λ c. search needs)
+    (λ c. search needs)
+    (λ c. search needs)
+    (λ c. search needs)
+    (λ c. search needs)
+    (λ c. search needs)
+    (λ c. search needs)
+    (λ c κs. search needs)
+    returns
+    (λ c. search needs)
+    (λ c. search needs)
+    (λ c. search needs)
+    (λ c. search needs)
+    (λ c. search needs)
+    (λ c. search needs)
+    (λ c κs. search needs)
+    returns-2
+    (λ c. search needs)
+    (λ c. search needs)
+    loop-again
+    returns-3)

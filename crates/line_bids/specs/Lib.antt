@@ -1,0 +1,4 @@
+-- Definitions and the laws on them.
+pub mod Kinds
+pub mod Counts
+pub mod Slots

@@ -1,0 +1,34 @@
+-- `line_quantities::sums::effective_actual` meets its contract.
+use mathlib.Core.Path.{_∙_, ap}
+use borrow.Author.Needs.{needs}
+use Rattle.laws.specs.Folds.{same-five}
+use Rattle.line_quantities.specs.Sums.{rowSum, lesserAt}
+use Rattle.line_quantities.proofs.sums.Totals.{lesser-total}
+use Rattle.line_quantities.proofs.sums.effective_actual.Statement.{statement}
+use Rattle.line_quantities.proofs.sums.effective_actual.Tie as tie
+
+returns : tie.Need-returns
+unfolding lesserAt
+returns c = c .row-sum .ensures ∙ ap rowSum (same-five (c .before .before .before .before .before .lesser .ensures) (c .before .before .before .before .lesser2 .ensures) (c .before .before .before .lesser3 .ensures) (c .before .before .lesser4 .ensures) (c .before .lesser5 .ensures)) ∙ lesser-total _ _
+
+pub effective-actual-spec : {M : Type 1} → statement M
+effective-actual-spec =
+    tie.close
+    (tie.spec
+    (λ c. search needs)
+    (λ c. search needs)
+    (λ c κs. search needs)
+    (λ c. search needs)
+    (λ c. search needs)
+    (λ c κs. search needs)
+    (λ c. search needs)
+    (λ c. search needs)
+    (λ c κs. search needs)
+    (λ c. search needs)
+    (λ c. search needs)
+    (λ c κs. search needs)
+    (λ c. search needs)
+    (λ c. search needs)
+    (λ c κs. search needs)
+    (λ c κs. search needs)
+    returns)

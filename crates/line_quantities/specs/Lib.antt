@@ -1,0 +1,3 @@
+-- Definitions and the laws on them.
+pub mod Words
+pub mod Sums

@@ -1,0 +1,33 @@
+-- `step_finals::finals::final_taken` meets its contract: row by row.
+use borrow.Author.Needs.{needs}
+use Rattle.rules.specs.Totals.{totals}
+use Rattle.step_pool.proofs.pool_amounts.Settling.{of-falls, of-minus, final-row, sharing}
+use Rattle.step_matching.specs.Ledgers.{matchRow}
+use Rattle.step_finals.proofs.finals.final_taken.Statement.{statement}
+use Rattle.step_finals.proofs.finals.final_taken.Tie as tie
+
+revised-minus-requires : tie.Need-revised-minus-requires
+unfolding matchRow
+revised-minus-requires c κs = (c .before .before .before .before .pre .0, rw (c .match-table .ensures, c .before .before .before .before .pre .2), of-minus (c .before .before .before .before .args .x) _ (c .before .before .before .before .pre .4))
+
+modified-minus-requires : tie.Need-modified-minus-requires
+unfolding matchRow
+modified-minus-requires c κs = (c .before .before .before .before .before .pre .0, rw (c .before .match-table .ensures, c .before .before .before .before .before .pre .2), c .before .before .before .before .before .pre .3, of-minus (c .before .before .before .before .before .args .x) _ (c .before .before .before .before .before .pre .4))
+
+final-minus-requires : tie.Need-final-minus-requires
+final-minus-requires c κs = let x = c .before .before .before .before .before .before .before .before .args .x in let e = c .before .before .before .before .before .before .before .before .pre .4 in sharing x (c .before .before .before .before .before .before .before .before .args .p) (record { initials = of-minus x _ e; reviseds = c .before .before .before .revised-minus .ensures; modifieds = c .before .before .modified-minus .ensures; falls = of-falls x _ e; totals = c .before .shared-totals .ensures; bases = c .bases .ensures }) (c .before .before .before .before .before .before .before .before .pre .0) (c .before .before .before .before .before .before .before .before .pre .1)
+
+returns : tie.Need-returns
+returns c = let x = c .before .before .before .before .before .before .before .before .before .args .x in let e = c .before .before .before .before .before .before .before .before .before .pre .4 in final-row x (c .before .before .before .before .before .before .before .before .before .args .claw) (c .before .before .before .before .before .before .before .before .before .args .p) (record { initials = of-minus x _ e; reviseds = c .before .before .before .before .revised-minus .ensures; modifieds = c .before .before .before .modified-minus .ensures; falls = of-falls x _ e; totals = c .before .before .shared-totals .ensures; bases = c .before .bases .ensures }) (c .final-minus .ensures)
+
+pub final-taken-spec : {M : Type 1} → statement M
+final-taken-spec =
+    tie.close
+    (tie.spec
+    (λ c κs. search needs)
+    revised-minus-requires
+    modified-minus-requires
+    (λ c κs. search needs)
+    (λ c κs. search needs)
+    final-minus-requires
+    returns)

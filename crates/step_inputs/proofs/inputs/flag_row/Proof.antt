@@ -1,0 +1,26 @@
+-- `step_inputs::inputs::flag_row` meets its contract.
+use borrow.Author.Needs.{needs}
+use Rattle.laws.specs.Folds.{same-five}
+use Rattle.step_inputs.specs.Inputs.{flagIn}
+use Rattle.step_inputs.proofs.inputs.flag_row.Statement.{statement}
+use Rattle.step_inputs.proofs.inputs.flag_row.Tie as tie
+
+returns : tie.Need-returns
+unfolding flagIn
+returns c = same-five (c .before .before .before .before .flag-at .ensures) (c .before .before .before .flag-at2 .ensures) (c .before .before .flag-at3 .ensures) (c .before .flag-at4 .ensures) (c .flag-at5 .ensures)
+
+pub flag-row-spec : {M : Type 1} → statement M
+flag-row-spec =
+    tie.close
+    (tie.spec
+    (λ c. search needs)
+    (λ c κs. search needs)
+    (λ c. search needs)
+    (λ c κs. search needs)
+    (λ c. search needs)
+    (λ c κs. search needs)
+    (λ c. search needs)
+    (λ c κs. search needs)
+    (λ c. search needs)
+    (λ c κs. search needs)
+    returns)

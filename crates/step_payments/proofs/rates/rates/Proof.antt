@@ -1,0 +1,37 @@
+-- `step_payments::rates::rates` meets its contract.
+use lib.Dec.{lit<}
+use Rattle.numbers.specs.Fives.{five-is}
+use Rattle.rules.specs.Payments.{rate}
+use Rattle.step_payments.proofs.rates.rates.Statement.{statement}
+use Rattle.step_payments.proofs.rates.rates.Tie as tie
+
+returns : tie.Need-returns
+unfolding rate
+returns c =
+    five-is (rate (c .before .before .before .before .before .before .before .args .x))
+    (c .before .before .before .before .excess .ensures)
+    (c .before .before .before .excess2 .ensures)
+    (c .before .before .excess3 .ensures)
+    (c .before .excess4 .ensures)
+    (c .excess5 .ensures)
+
+pub rates-spec : {M : Type 1} → statement M
+rates-spec =
+    tie.close
+    (tie.spec
+    (λ c. lit< tt)
+    (λ c. lit< tt)
+    (λ c κs. tt)
+    (λ c. lit< tt)
+    (λ c. lit< tt)
+    (λ c κs. tt)
+    (λ c. lit< tt)
+    (λ c. lit< tt)
+    (λ c κs. tt)
+    (λ c. lit< tt)
+    (λ c. lit< tt)
+    (λ c κs. tt)
+    (λ c. lit< tt)
+    (λ c. lit< tt)
+    (λ c κs. tt)
+    returns)

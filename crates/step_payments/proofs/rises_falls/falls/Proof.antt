@@ -1,0 +1,36 @@
+-- `step_payments::rises_falls::falls` meets its contract.
+use native.Mathlib.Omega.{arith}
+use borrow.Author.Needs.{needs}
+use Rattle.numbers.specs.Fives.{five-is}
+use Rattle.rules.specs.Fold.{before}
+use Rattle.rules.specs.Matching.{fall, earlier}
+use Rattle.step_payments.proofs.rises_falls.falls.Statement.{statement}
+use Rattle.step_payments.proofs.rises_falls.falls.Tie as tie
+
+returns : tie.Need-returns
+unfolding fall earlier before
+returns c =
+    five-is (fall (c .before .before .before .before .args .t1))
+    (omega arith)
+    (c .before .before .before .less .ensures)
+    (c .before .before .less2 .ensures)
+    (c .before .less3 .ensures)
+    (c .less4 .ensures)
+
+pub falls-spec : {M : Type 1} → statement M
+falls-spec =
+    tie.close
+    (tie.spec
+    (λ c. search needs)
+    (λ c. search needs)
+    (λ c κs. tt)
+    (λ c. search needs)
+    (λ c. search needs)
+    (λ c κs. tt)
+    (λ c. search needs)
+    (λ c. search needs)
+    (λ c κs. tt)
+    (λ c. search needs)
+    (λ c. search needs)
+    (λ c κs. tt)
+    returns)

@@ -1,0 +1,37 @@
+-- `step_payments::rises_falls::products` meets its contract.
+use borrow.Author.Needs.{needs}
+use Rattle.numbers.specs.Fives.{five-is}
+use Rattle.step_payments.specs.Amounts.{productIn}
+use Rattle.step_payments.proofs.rises_falls.products.Statement.{statement}
+use Rattle.step_payments.proofs.rises_falls.products.Tie as tie
+
+returns : tie.Need-returns
+unfolding productIn
+returns c =
+    five-is (productIn (c .before .before .before .before .before .args .t1) (c .before .before .before .before .before .args .t2))
+    (c .before .before .before .before .product .ensures)
+    (c .before .before .before .product2 .ensures)
+    (c .before .before .product3 .ensures)
+    (c .before .product4 .ensures)
+    (c .product5 .ensures)
+
+pub products-spec : {M : Type 1} → statement M
+products-spec =
+    tie.close
+    (tie.spec
+    (λ c. search needs)
+    (λ c. search needs)
+    (λ c κs. tt)
+    (λ c. search needs)
+    (λ c. search needs)
+    (λ c κs. tt)
+    (λ c. search needs)
+    (λ c. search needs)
+    (λ c κs. tt)
+    (λ c. search needs)
+    (λ c. search needs)
+    (λ c κs. tt)
+    (λ c. search needs)
+    (λ c. search needs)
+    (λ c κs. tt)
+    returns)

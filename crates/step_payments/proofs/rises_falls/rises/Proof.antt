@@ -1,0 +1,37 @@
+-- `step_payments::rises_falls::rises` meets its contract.
+use native.Mathlib.Omega.{arith}
+use borrow.Author.Needs.{needs}
+use Rattle.numbers.specs.Fives.{five-is}
+use Rattle.rules.specs.Fold.{before}
+use Rattle.rules.specs.Matching.{rise, earlier}
+use Rattle.step_payments.proofs.rises_falls.rises.Statement.{statement}
+use Rattle.step_payments.proofs.rises_falls.rises.Tie as tie
+
+returns : tie.Need-returns
+unfolding rise earlier before
+returns c =
+    five-is (rise (c .before .before .before .before .args .t1))
+    (omega arith)
+    (c .before .before .before .less .ensures)
+    (c .before .before .less2 .ensures)
+    (c .before .less3 .ensures)
+    (c .less4 .ensures)
+
+pub rises-spec : {M : Type 1} → statement M
+rises-spec =
+    tie.close
+    (tie.spec
+    (λ c. search needs)
+    (λ c. search needs)
+    (λ c. search needs)
+    (λ c κs. tt)
+    (λ c. search needs)
+    (λ c. search needs)
+    (λ c κs. tt)
+    (λ c. search needs)
+    (λ c. search needs)
+    (λ c κs. tt)
+    (λ c. search needs)
+    (λ c. search needs)
+    (λ c κs. tt)
+    returns)

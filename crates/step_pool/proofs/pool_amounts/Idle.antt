@@ -1,0 +1,170 @@
+-- A step without a paid rise or fall: it adds nothing to its side's pool and is paid nothing.
+use Prim.Native.Nat.{ℕ, zero, suc, _+_, _-_, _≤_, _<_, min}
+use native.Mathlib.Nat.{zero-mul}
+use native.Mathlib.Omega.{arith}
+use mathlib.Core.Path.{_≡_, refl, sym, _∙_, ap, subst}
+use mathlib.Core.Bool.{Bool, true, false, cond, _||_, false≢true}
+use mathlib.Core.List.{List}
+use lib.Dec.{leb}
+use borrow.Author.Tests.{eqb-true, ne-eqb, leb-true, le-leb, lt-leb}
+use Rattle.rules.specs.Fold.{before, five, at, mostTo}
+use Rattle.rules.specs.Matching.{earlier, rise, fall}
+use Rattle.rules.specs.Quantities.{allocated, leastFrom, beyond, msiqFrom, msiq, constrained}
+use Rattle.rules.specs.Payments.{operatingOn, pricingOn, msiqOn, constrainedOn, onStep, rate, isPaid, initial}
+use Rattle.rules.specs.declared.Step.{Step}
+use Rattle.laws.specs.Folds.{at-five, most-term}
+use Rattle.laws.specs.Ints.{pl}
+use Rattle.numbers.specs.Fives.{five-same}
+use Rattle.step_quantities.specs.Bounds.{least-most, onStep-most}
+use Rattle.step_payments.specs.declared.amounts.Money.{Money}
+use Rattle.step_payments.specs.Parts.{changeOn, initial-plus, initial-minus}
+use Rattle.step_payments.specs.Amounts.{plusOf, minusOf, moneyOf}
+use Rattle.step_pool.specs.declared.pool_amounts.SidePool.{SidePool}
+use Rattle.step_pool.specs.declared.pool_amounts.Changes.{Changes}
+use Rattle.step_pool.specs.Amounts.{changesOn, stepPool, noPool, noMoney, poolSum, moneySum, poolAt, finalOn, allZero, isUnconstrained, Kept}
+use Rattle.step_pool.specs.Parts.{rise-le, fall-le, off-initial, money-same}
+use Rattle.step_pool.proofs.pool_amounts.Settling.{of-plus, of-minus, final-pays}
+use Rattle.step_pool.proofs.pool_amounts.Kept.{kept-plus, kept-minus, kept-differs, final-kept}
+
+pub record Idle (x : Step) : Type 0 where
+  pub rises : (s : ℕ) → s < 5 → changeOn rise x s ≡ 0
+  pub falls : (s : ℕ) → s < 5 → changeOn fall x s ≡ 0
+
+zero-at : (v : List ℕ) → true ≡ allZero v → (s : ℕ) → s < 5 → at v s ≡ 0
+unfolding allZero
+zero-at v h s l =
+    let z = eqb-true (mostTo 5 (at v)) 0 (sym h) in
+    let m = most-term 5 (at v) s l in
+    omega arith
+
+-- a step that is not paid
+unpaid-change : (change : List ℕ → ℕ → ℕ) (x : Step) (s : ℕ) → at (x .paid) s ≡ 0 → changeOn change x s ≡ 0
+unfolding changeOn isPaid
+unpaid-change change x s e = rw (ne-eqb (at (x .paid) s) 1 (λ q. omega arith))
+
+pub idle-unpaid : (x : Step) → true ≡ allZero (x .paid) → Idle x
+idle-unpaid x h =
+    record {
+      rises = λ s l. unpaid-change rise x s (zero-at (x .paid) h s l);
+      falls = λ s l. unpaid-change fall x s (zero-at (x .paid) h s l);
+    }
+
+-- a step whose C are all 0
+none-earlier : (c : List ℕ) → ((s : ℕ) → s < 5 → at c s ≡ 0) → (s : ℕ) → s < 5 → earlier c s ≡ 0
+unfolding earlier before
+none-earlier c h zero l = omega arith
+none-earlier c h (suc s) l = h s (omega arith)
+
+none-on : (x : Step) → ((s : ℕ) → s < 5 → at (onStep x) s ≡ 0) → Idle x
+none-on x z =
+    record {
+      rises = λ s l. omega (arith, rise-le x s, z s l);
+      falls = λ s l. omega (arith, fall-le x s, none-earlier (onStep x) z s l);
+    }
+
+-- past every operating total nothing is operated
+past-operating : (x : Step) → mostTo 5 (at (x .operating)) ≤ x .lower → (s : ℕ) → s < 5 → at (onStep x) s ≡ 0
+unfolding operatingOn allocated
+past-operating x h s l = omega (arith, onStep-most x s l, most-term 5 (at (x .operating)) s l)
+
+-- within every pricing total MSIQ is the step's width in each schedule
+least-later : (o : List ℕ) (i s m : ℕ) → i ≤ m → leastFrom o s m ≤ at o (i + s)
+unfolding leastFrom
+least-later o zero s m h = let e : 0 + s ≡ s = omega arith in rw e (least-most o s m)
+least-later o (suc i) s zero h = absurd (omega arith)
+least-later o (suc i) s (suc m) h =
+    let e : suc i + s ≡ i + suc s = omega arith in
+    let r = least-later o i (suc s) m (omega arith) in
+    rw e (omega arith)
+
+least-at : (o : List ℕ) (s : ℕ) → s < 5 → leastFrom o 0 4 ≤ at o s
+least-at o s l = let e : s + 0 ≡ s = omega arith in subst (λ (n : ℕ). leastFrom o 0 4 ≤ at o n) e (least-later o s 0 4 (omega arith))
+
+least-by : (t : Bool) (e n w : ℕ) → w ≤ e → w ≤ n → w ≤ cond t e (min e n)
+least-by true e n w h k = h
+least-by false e n w h k = omega arith
+
+msiq-least : (sd : ℕ) (p mp e : List ℕ) (w : ℕ) → ((i : ℕ) → i < 5 → w ≤ at e i) → (s m : ℕ) → s + m ≤ 4 → w ≤ msiqFrom sd p mp e s m
+unfolding msiqFrom
+msiq-least sd p mp e w h s zero l = h s (omega arith)
+msiq-least sd p mp e w h s (suc m) l =
+    least-by (beyond sd (at p s) (at mp s)) (at e s) (msiqFrom sd p mp e (suc s) m) w (h s (omega arith)) (msiq-least sd p mp e w h (suc s) m (omega arith))
+
+priced-on : (x : Step) → x .upper ≤ leastFrom (x .pricing) 0 4 → (s : ℕ) → s < 5 → x .upper - x .lower ≤ at (five (pricingOn x)) s
+unfolding pricingOn allocated
+priced-on x h s l = omega (arith, at-five (pricingOn x) 0 s l, least-at (x .pricing) s l)
+
+within-pricing : (x : Step) → x .upper ≤ leastFrom (x .pricing) 0 4 → (s : ℕ) → s < 5 → at (onStep x) s ≡ 0
+unfolding onStep constrainedOn constrained msiqOn msiq operatingOn allocated
+within-pricing x h s l =
+    let q = msiq-least (x .side) (x .price) (x .market) (five (pricingOn x)) (x .upper - x .lower) (priced-on x h) s (4 - s) (omega arith) in
+    omega (arith, at-five (constrainedOn x) 0 s l, at-five (operatingOn x) 0 s l, at-five (msiqOn x) 0 s l)
+
+pub within-is : (x : Step) (n : ℕ) → n ≡ leastFrom (x .pricing) 0 4 → x .upper ≤ n → true ≡ isUnconstrained x
+unfolding isUnconstrained
+within-is x n e h = let k : x .upper ≤ leastFrom (x .pricing) 0 4 = omega arith in rw (le-leb _ _ k)
+
+pub past-is : (x : Step) (n m : ℕ) → n ≡ leastFrom (x .pricing) 0 4 → n < x .upper → m ≡ mostTo 5 (at (x .operating)) → leb m (x .lower) ≡ isUnconstrained x
+unfolding isUnconstrained
+past-is x n m e h f = let k : leastFrom (x .pricing) 0 4 < x .upper = omega arith in rw (lt-leb _ _ k, f)
+
+pub idle-unconstrained : (x : Step) → true ≡ isUnconstrained x → Idle x
+unfolding isUnconstrained
+idle-unconstrained x h = go (leb (x .upper) (leastFrom (x .pricing) 0 4)) (leb (mostTo 5 (at (x .operating))) (x .lower)) refl refl h
+  where
+    go : (t u : Bool) → leb (x .upper) (leastFrom (x .pricing) 0 4) ≡ t → leb (mostTo 5 (at (x .operating))) (x .lower) ≡ u → true ≡ t || u → Idle x
+    go true u e f h = none-on x (within-pricing x (leb-true _ _ e))
+    go false true e f h = none-on x (past-operating x (leb-true _ _ f))
+    go false false e f h = absurd (false≢true (sym h))
+
+module _ (x : Step) (k : Idle x) where
+  none-paid : (s : ℕ) → s < 5 → plusOf (initial x) s ≡ 0
+  unfolding plusOf
+  none-paid s l = initial-plus x s ∙ rw (k .rises s l) (zero-mul (rate x s))
+
+  keeps : Kept x
+  keeps = record { none = λ s l. initial-minus x s ∙ rw (k .falls s l) (zero-mul (rate x s)) }
+
+  no-plus : five (plusOf (initial x)) ≡ five (λ (s : ℕ). 0)
+  no-plus = five-same (plusOf (initial x)) (λ (s : ℕ). 0) none-paid
+
+  no-minus : five (minusOf (initial x)) ≡ five (λ (s : ℕ). 0)
+  unfolding minusOf
+  no-minus = five-same (minusOf (initial x)) (λ (s : ℕ). 0) (keeps .none)
+
+  idle-pool : stepPool x ≡ noPool
+  unfolding stepPool noPool
+  idle-pool =
+      let plus = sym (kept-plus x keeps) ∙ no-plus in
+      let minus = sym (kept-minus x keeps) in
+      let rises = five-same (changeOn rise x) (λ (s : ℕ). 0) (k .rises) in
+      let falls = five-same (changeOn fall x) (λ (s : ℕ). 0) (k .falls) in
+      let differs = sym (kept-differs x keeps) in
+      λ i. record { plus = plus i; minus = minus i; rises = rises i; falls = falls i; differs = differs i }
+
+  initial-money : moneyOf (initial x) ≡ noMoney
+  unfolding moneyOf noMoney
+  initial-money = let plus = no-plus in let minus = no-minus in λ i. record { plus = plus i; minus = minus i }
+
+  pub pool-idle : (p : SidePool) → poolSum p noPool ≡ p → p ≡ poolSum p (stepPool x)
+  pool-idle p e = sym e ∙ ap (poolSum p) (sym idle-pool)
+
+  pub money-idle : (m : Money) (claw : ℕ) (p : SidePool) → moneySum m noMoney ≡ m → m ≡ moneySum m (moneyOf (finalOn x claw p))
+  money-idle m claw p e = sym e ∙ ap (moneySum m) (sym initial-money ∙ final-kept x keeps claw p)
+
+-- what any other step is paid
+module _ (x : Step) (v : Changes) (e : v ≡ changesOn x) (claw : ℕ) (p : SidePool) where
+  pub taken-money : (w : List ℕ) → w ≡ five (minusOf (finalOn x claw p)) → _≡_ {A = Money} (record { plus = v .plus; minus = w }) (moneyOf (finalOn x claw p))
+  unfolding moneyOf
+  taken-money w we = let pays = of-plus x v e ∙ final-pays x claw p in λ i. record { plus = pays i; minus = we i }
+
+  first-money : moneyOf (initial x) ≡ moneyOf (finalOn x claw p) → _≡_ {A = Money} (record { plus = v .plus; minus = v .minus }) (moneyOf (finalOn x claw p))
+  unfolding moneyOf
+  first-money h = taken-money (v .minus) (of-minus x v e ∙ ap (λ (m : Money). m .minus) h)
+
+  pub kept-money : Kept x → _≡_ {A = Money} (record { plus = v .plus; minus = v .minus }) (moneyOf (finalOn x claw p))
+  kept-money k = first-money (final-kept x k claw p)
+
+  pub off-money : claw ≡ 0 → _≡_ {A = Money} (record { plus = v .plus; minus = v .minus }) (moneyOf (finalOn x claw p))
+  unfolding finalOn
+  off-money z = first-money (sym (money-same _ _ (λ s l. off-initial x claw s (poolAt p s) z)))

@@ -1,0 +1,51 @@
+-- `step_quantities::agino::agino` meets its contract: the least of the operating quantities is taken from the last schedule back.
+use borrow.Author.Needs.{needs}
+use Rattle.rules.specs.Quantities.{agino}
+use Rattle.numbers.specs.Fives.{five-is}
+use Rattle.laws.specs.Chains.{least-step, least-last, agino-at}
+use Rattle.step_quantities.proofs.agino.agino.Statement.{statement}
+use Rattle.step_quantities.proofs.agino.agino.Tie as tie
+
+returns : tie.Need-returns
+returns c =
+    let o = c .before .before .before .before .before .before .before .before .before .before .args .t1 in
+    let a = c .before .before .before .before .before .before .before .before .before .before .args .a in
+    let last = c .before .before .before .before .before .before .before .before .before .less .ensures in
+    let l₃ = least-step o 3 0 (least-last o 4) (c .before .before .before .before .before .before .before .before .lesser .ensures) in
+    let l₂ = least-step o 2 1 l₃ (c .before .before .before .before .before .before .before .lesser2 .ensures) in
+    let l₁ = least-step o 1 2 l₂ (c .before .before .before .before .before .before .lesser3 .ensures) in
+    let l₀ = least-step o 0 3 l₁ (c .before .before .before .before .before .lesser4 .ensures) in
+    five-is (agino o a)
+    (agino-at o a 0 last l₀ (c .before .before .before .before .carried-back .ensures))
+    (agino-at o a 1 last l₁ (c .before .before .before .carried-back2 .ensures))
+    (agino-at o a 2 last l₂ (c .before .before .carried-back3 .ensures))
+    (agino-at o a 3 last l₃ (c .before .carried-back4 .ensures))
+    (agino-at o a 4 last (least-last o 4) (c .carried-back5 .ensures))
+
+pub agino-spec : {M : Type 1} → statement M
+agino-spec =
+    tie.close
+    (tie.spec
+    (λ c. search needs)
+    (λ c κs. tt)
+    (λ c. search needs)
+    (λ c. search needs)
+    (λ c κs. tt)
+    (λ c. search needs)
+    (λ c κs. tt)
+    (λ c. search needs)
+    (λ c κs. tt)
+    (λ c. search needs)
+    (λ c κs. tt)
+    (λ c. search needs)
+    (λ c κs. tt)
+    (λ c. search needs)
+    (λ c κs. tt)
+    (λ c. search needs)
+    (λ c κs. tt)
+    (λ c. search needs)
+    (λ c κs. tt)
+    (λ c. search needs)
+    (λ c. search needs)
+    (λ c κs. tt)
+    returns)

@@ -1,0 +1,12 @@
+-- `step_quantities::allocation::allocate` meets its contract.
+use borrow.Author.Needs.{needs}
+use Rattle.rules.specs.Quantities.{allocated}
+use Rattle.step_quantities.proofs.allocation.allocate.Statement.{statement}
+use Rattle.step_quantities.proofs.allocation.allocate.Tie as tie
+
+returns : tie.Need-returns
+unfolding allocated
+returns c = rw (c .less .ensures, c .before .lesser .ensures)
+
+pub allocate-spec : {M : Type 1} → statement M
+allocate-spec = tie.close (tie.spec (λ c κs. tt) (λ c κs. tt) returns)

@@ -1,0 +1,32 @@
+-- `step_quantities::allocation::allocate_all` meets its contract.
+use borrow.Author.Needs.{needs}
+use Rattle.step_quantities.specs.Rows.{allocatedIn}
+use Rattle.numbers.specs.Fives.{five-is}
+use Rattle.step_quantities.proofs.allocation.allocate_all.Statement.{statement}
+use Rattle.step_quantities.proofs.allocation.allocate_all.Tie as tie
+
+returns : tie.Need-returns
+unfolding allocatedIn
+returns c =
+    five-is (allocatedIn (c .before .before .before .before .before .args .t1) (c .before .before .before .before .before .args .l) (c .before .before .before .before .before .args .u))
+    (c .before .before .before .before .allocate .ensures)
+    (c .before .before .before .allocate2 .ensures)
+    (c .before .before .allocate3 .ensures)
+    (c .before .allocate4 .ensures)
+    (c .allocate5 .ensures)
+
+pub allocate-all-spec : {M : Type 1} → statement M
+allocate-all-spec =
+    tie.close
+    (tie.spec
+    (λ c. search needs)
+    (λ c κs. tt)
+    (λ c. search needs)
+    (λ c κs. tt)
+    (λ c. search needs)
+    (λ c κs. tt)
+    (λ c. search needs)
+    (λ c κs. tt)
+    (λ c. search needs)
+    (λ c κs. tt)
+    returns)

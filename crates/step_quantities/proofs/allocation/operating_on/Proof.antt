@@ -1,0 +1,13 @@
+-- `step_quantities::allocation::operating_on` meets its contract.
+use borrow.Author.Needs.{needs}
+use Rattle.rules.specs.Payments.{operatingOn}
+use Rattle.step_quantities.specs.Rows.{allocatedIn}
+use Rattle.step_quantities.proofs.allocation.operating_on.Statement.{statement}
+use Rattle.step_quantities.proofs.allocation.operating_on.Tie as tie
+
+returns : tie.Need-returns
+unfolding operatingOn allocatedIn
+returns c = c .allocate-all .ensures
+
+pub operating-on-spec : {M : Type 1} → statement M
+operating-on-spec = tie.close (tie.spec (λ c κs. tt) returns)

@@ -1,0 +1,42 @@
+-- `step_quantities::constrained::constrained` meets its contract.
+use borrow.Author.Needs.{needs}
+use Rattle.rules.specs.Quantities.{constrained}
+use Rattle.numbers.specs.Fives.{five-is}
+use Rattle.step_quantities.proofs.constrained.constrained.Statement.{statement}
+use Rattle.step_quantities.proofs.constrained.constrained.Tie as tie
+
+returns : tie.Need-returns
+unfolding constrained
+returns c =
+    five-is (constrained (c .before .before .before .before .before .args .t1) (c .before .before .before .before .before .args .t2) (c .before .before .before .before .before .args .t3))
+    (c .before .before .before .before .constrained-in .ensures)
+    (c .before .before .before .constrained-in2 .ensures)
+    (c .before .before .constrained-in3 .ensures)
+    (c .before .constrained-in4 .ensures)
+    (c .constrained-in5 .ensures)
+
+pub constrained-spec : {M : Type 1} → statement M
+constrained-spec =
+    tie.close
+    (tie.spec
+    (λ c. search needs)
+    (λ c. search needs)
+    (λ c. search needs)
+    (λ c κs. tt)
+    (λ c. search needs)
+    (λ c. search needs)
+    (λ c. search needs)
+    (λ c κs. tt)
+    (λ c. search needs)
+    (λ c. search needs)
+    (λ c. search needs)
+    (λ c κs. tt)
+    (λ c. search needs)
+    (λ c. search needs)
+    (λ c. search needs)
+    (λ c κs. tt)
+    (λ c. search needs)
+    (λ c. search needs)
+    (λ c. search needs)
+    (λ c κs. tt)
+    returns)

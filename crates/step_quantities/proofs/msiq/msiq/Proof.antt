@@ -1,0 +1,42 @@
+-- `step_quantities::msiq::msiq` meets its contract: from the last schedule back.
+use borrow.Author.Needs.{needs}
+use Rattle.rules.specs.Quantities.{msiq}
+use Rattle.numbers.specs.Fives.{five-is}
+use Rattle.laws.specs.Chains.{msiq-step, msiq-last}
+use Rattle.step_quantities.proofs.msiq.msiq.Statement.{statement}
+use Rattle.step_quantities.proofs.msiq.msiq.Tie as tie
+
+returns : tie.Need-returns
+unfolding msiq
+returns c =
+    let g = c .before .before .before .before .args in
+    let q₄ = msiq-last (g .side) (g .t2) (g .t3) (g .t4) 4 in
+    let q₃ = msiq-step (g .side) (g .t2) (g .t3) (g .t4) 3 0 q₄ (c .before .before .before .msiq-before .ensures) in
+    let q₂ = msiq-step (g .side) (g .t2) (g .t3) (g .t4) 2 1 q₃ (c .before .before .msiq-before2 .ensures) in
+    let q₁ = msiq-step (g .side) (g .t2) (g .t3) (g .t4) 1 2 q₂ (c .before .msiq-before3 .ensures) in
+    let q₀ = msiq-step (g .side) (g .t2) (g .t3) (g .t4) 0 3 q₁ (c .msiq-before4 .ensures) in
+    five-is (msiq (g .side) (g .t2) (g .t3) (g .t4)) q₀ q₁ q₂ q₃ q₄
+
+pub msiq-spec : {M : Type 1} → statement M
+msiq-spec =
+    tie.close
+    (tie.spec
+    (λ c. search needs)
+    (λ c. search needs)
+    (λ c. search needs)
+    (λ c. search needs)
+    (λ c κs. tt)
+    (λ c. search needs)
+    (λ c. search needs)
+    (λ c. search needs)
+    (λ c κs. tt)
+    (λ c. search needs)
+    (λ c. search needs)
+    (λ c. search needs)
+    (λ c κs. tt)
+    (λ c. search needs)
+    (λ c. search needs)
+    (λ c. search needs)
+    (λ c κs. tt)
+    (λ c. search needs)
+    returns)

@@ -1,0 +1,56 @@
+// Document 01, "Quantities": constrained on, and AGINO and MSIQ of a step, each for the five schedules at once.
+use crate::agino::agino;
+use crate::allocation::actual_on;
+use crate::allocation::operating_on;
+use crate::allocation::pricing_on;
+use crate::msiq::msiq;
+use numbers::less;
+use rules::Step;
+ghost use mathlib.Core.Path.{_≡_};
+ghost use Prim.Native.Nat.{_-_};
+ghost use Rattle.rules.specs.Fold.{five};
+ghost use Rattle.rules.specs.Quantities as rule;
+ghost use Rattle.rules.specs.Payments as paper;
+
+fn constrained_in(o: u32, g: u32, q: u32) -> u32
+    ensures { λ r. ⌜ r ≡ o - g - q ⌝ }
+{
+    less(less(o, g), q)
+}
+
+// C, from O, AGINO and MSIQ
+pub fn constrained(o: [u32; 5], g: [u32; 5], q: [u32; 5]) -> [u32; 5]
+    ensures { λ r. ⌜ r ≡ five (rule.constrained o g q) ⌝ }
+{
+    [
+        constrained_in(o[0], g[0], q[0]),
+        constrained_in(o[1], g[1], q[1]),
+        constrained_in(o[2], g[2], q[2]),
+        constrained_in(o[3], g[3], q[3]),
+        constrained_in(o[4], g[4], q[4]),
+    ]
+}
+
+// AGINO of a step
+pub fn agino_on(x: Step) -> [u32; 5]
+    ensures { λ r. ⌜ r ≡ five (paper.aginoOn x) ⌝ }
+{
+    agino(operating_on(x), actual_on(x))
+}
+
+// MSIQ of a step
+pub fn msiq_on(x: Step) -> [u32; 5]
+    ensures { λ r. ⌜ r ≡ five (paper.msiqOn x) ⌝ }
+{
+    let price = x.price;
+    let market = x.market;
+    msiq(x.side, price, market, pricing_on(x))
+}
+
+// C of a step
+pub fn constrained_on(x: Step) -> [u32; 5]
+    ensures { λ r. ⌜ r ≡ paper.onStep x ⌝ }
+{
+    let o = operating_on(x);
+    constrained(o, agino(o, actual_on(x)), msiq_on(x))
+}

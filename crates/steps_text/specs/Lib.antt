@@ -1,3 +1,0 @@
--- What the program `steps` prints, and that its parts make up the whole.
-pub mod Text
-pub mod Parts

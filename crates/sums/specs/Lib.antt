@@ -1,2 +1,0 @@
--- Definitions and the laws on them.
-pub mod Sums

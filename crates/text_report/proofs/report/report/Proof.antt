@@ -1,0 +1,54 @@
+-- `text_report::report::report` meets its contract: by its cases.
+use borrow.Author.Needs.{needs}
+use Rattle.text.specs.Put.{written-as, written-wider, written-nothing}
+use Rattle.text_report.specs.BookText.{reportMost, report-short, report-refused, report-many, report-none, report-book}
+use Rattle.text_report.proofs.report.report.Statement.{statement}
+use Rattle.text_report.proofs.report.report.Tie as tie
+
+returns : tie.Need-returns
+returns c = written-nothing _ _ (report-short _ _ _ (c .if1 .taken))
+
+returns-2 : tie.Need-returns-2
+returns-2 c =
+    let c1 = c .before .before in
+    let c2 = c1 .before .before in
+    let c3 = c2 .before in
+    written-wider 29 _ (written-as (report-refused _ _ _ (c3 .if1 .left) (c2 .if2 .taken)) (c1 .put-refused .ensures)) (search needs)
+
+returns-3 : tie.Need-returns-3
+returns-3 c = written-nothing _ _ (report-none _ _ _ (c .before .before .if1 .left) (c .before .if2 .left) (search needs))
+
+returns-4 : tie.Need-returns-4
+returns-4 c = written-nothing _ _ (report-many _ _ _ (c .before .before .before .before .if1 .left) (c .before .before .before .if2 .left) (search needs))
+
+returns-5 : tie.Need-returns-5
+returns-5 c =
+    let c1 = c .before .before .before .before in
+    let c2 = c1 .before in
+    written-nothing _ _ (report-none _ _ _ (c2 .if1 .left) (c1 .if2 .left) (search needs))
+
+returns-6 : tie.Need-returns-6
+returns-6 c =
+    let c1 = c .before .before in
+    let c2 = c1 .before .before .before .before .before .before in
+    let c3 = c2 .before in
+    written-wider reportMost _ (written-as (report-book _ _ _ (c3 .if1 .left) (c2 .if2 .left) (search needs) (search needs)) (c1 .put-book .ensures)) (c3 .if1 .left)
+
+pub report-spec : {M : Type 1} → statement M
+report-spec =
+    tie.close
+    (tie.spec
+    returns
+    (λ c κs. search needs)
+    (λ c. search needs)
+    returns-2
+    returns-3
+    (λ c κs. search needs)
+    returns-4
+    (λ c. search needs)
+    (λ c. search needs)
+    (λ c. search needs)
+    returns-5
+    (λ c κs. search needs)
+    (λ c. search needs)
+    returns-6)

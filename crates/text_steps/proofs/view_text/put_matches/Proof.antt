@@ -1,0 +1,22 @@
+-- `text_steps::view_text::put_matches` meets its contract: the texts that its calls put, one after another.
+use borrow.Author.Needs.{needs}
+use Rattle.text.specs.Put.{then, written-wider}
+use Rattle.text_steps.specs.ViewText.{matchesRow}
+use Rattle.text_steps.proofs.view_text.put_matches.Statement.{statement}
+use Rattle.text_steps.proofs.view_text.put_matches.Tie as tie
+
+returns : tie.Need-returns
+unfolding matchesRow
+returns c = written-wider _ 218 (then (then (c .before .before .before .before .before .before .before .before .before .before .before .put-bytes .ensures) (c .before .before .before .before .before .before .put-words .ensures)) (c .before .before .put-byte .ensures)) (search needs)
+
+pub put-matches-spec : {M : Type 1} → statement M
+put-matches-spec =
+    tie.close
+    (tie.spec
+    (λ c. search needs)
+    (λ c κs. search needs)
+    (λ c. search needs)
+    (λ c κs. search needs)
+    (λ c κs. search needs)
+    (λ c. search needs)
+    returns)

@@ -1,0 +1,23 @@
+-- `text_steps::view_text::put_step_head` meets its contract: the texts that its calls put, one after another.
+use borrow.Author.Needs.{needs}
+use Rattle.text.specs.Put.{then}
+use Rattle.text_steps.specs.ViewText.{stepHead}
+use Rattle.text_steps.proofs.view_text.put_step_head.Statement.{statement}
+use Rattle.text_steps.proofs.view_text.put_step_head.Tie as tie
+
+returns : tie.Need-returns
+unfolding stepHead
+returns c = then (then (then (c .before .before .before .before .before .before .before .before .before .before .before .before .before .before .before .put-bytes .ensures) (c .before .before .before .before .before .before .before .before .before .before .before .put-decimal .ensures)) (c .before .before .before .before .before .before .put-words .ensures)) (c .before .before .put-byte .ensures)
+
+pub put-step-head-spec : {M : Type 1} → statement M
+put-step-head-spec =
+    tie.close
+    (tie.spec
+    (λ c. search needs)
+    (λ c κs. search needs)
+    (λ c κs. search needs)
+    (λ c. search needs)
+    (λ c κs. search needs)
+    (λ c κs. search needs)
+    (λ c. search needs)
+    returns)

@@ -1,0 +1,3 @@
+// What the program `steps` prints, in lent bytes.
+pub mod steps_text;
+mod view_text;

@@ -1,0 +1,103 @@
+// What the program `steps` prints, written into lent bytes: for each line of a day its heading, and for each of its steps the figures
+// that the step view answers.
+use crate::view_text::put_view;
+use bytes_le::word_at;
+use day::day_number;
+use day::header::line_count;
+use day::header::line_of;
+use text::digits::put_byte;
+use text::digits::put_bytes;
+use text::digits::put_decimal;
+use text::refused::put_refused;
+use text_report::lines::put_ids;
+use text_report::lines::put_side_steps;
+use view::view;
+ghost use mathlib.Core.Path.{_≡_};
+ghost use Prim.Native.Nat.{_+_, _*_, _≤_, _<_};
+ghost use lib.ListN.{length};
+ghost use Rattle.rules.specs.Fold.{joined};
+ghost use Rattle.rules.specs.Layout.{lineCount};
+ghost use Rattle.rules.specs.Steps.{stepCount};
+ghost use Rattle.laws.specs.Accepted.{AcceptedDay};
+ghost use Rattle.text.specs.Put.{Written};
+ghost use Rattle.text_steps.specs.Text.{stepText, lineHead, lineSteps, partOf};
+
+// The bytes that the longest part takes: a line's heading and 56 steps.
+pub const PART_MOST: usize = 93 + 56 * 1587;
+
+// The first `count` steps of line k.
+fn put_steps(out: &mut [u8], at: usize, day: &[u8], k: usize, count: usize) -> usize
+    requires { ⌜ at + 1587 * count ≤ length (now out) ⌝ }
+    ensures { λ r. ⌜ Written (1587 * count) (now (out .entry)) at (joined count (stepText (now (day .entry)) k)) r (now (out .exit)) ⌝ }
+{
+    let mut p = at;
+    let mut j = 0;
+    while j < count {
+        p = put_view(out, p, j, view(day, k, j));
+        j += 1;
+    }
+    p
+}
+
+// The heading of line k, whose bytes are lent with its count of steps.
+fn put_line_head(out: &mut [u8], at: usize, k: usize, line: &[u8], count: u32) -> usize
+    requires { ⌜ (length (now line) ≡ 660) × (count ≡ stepCount (now line)) × (at + 93 ≤ length (now out)) ⌝ }
+    ensures { λ r. ⌜ Written 93 (now (out .entry)) at (lineHead k (now (line .entry))) r (now (out .exit)) ⌝ }
+{
+    let a = put_bytes(out, at, b"line ");
+    let b = put_decimal(out, a, k as u64);
+    let c = put_byte(out, b, b' ');
+    let d = put_ids(out, c, word_at(line, 0), word_at(line, 4));
+    let e = put_side_steps(out, d, word_at(line, 8), count);
+    put_byte(out, e, b'\n')
+}
+
+// Line k and all its steps.
+fn put_line(out: &mut [u8], at: usize, day: &[u8], k: usize) -> usize
+    requires { ⌜ (AcceptedDay (now day)) × (k < lineCount (now day)) × (at + 88965 ≤ length (now out)) ⌝ }
+    ensures { λ r. ⌜ Written 88965 (now (out .entry)) at (lineSteps (now (day .entry)) k) r (now (out .exit)) ⌝ }
+{
+    let line = line_of(day, k);
+    let count = cutter::steps::steps(line).count;
+    let a = put_line_head(out, at, k, line, count);
+    put_steps(out, a, day, k, count as usize)
+}
+
+// Part k of a day's text, from the first of the lent bytes on: line k and all its steps; of a refused day the refusal, which is part 0.
+// It answers how many bytes it put. It puts none past the last part, and where fewer than `PART_MOST` are lent.
+pub fn part(day: &[u8], k: usize, out: &mut [u8]) -> usize
+    ensures { λ r. do
+      lent ← ⟦out.len()⟧ .entry
+      ⌜ Written lent (now (out .entry)) 0 (partOf (now (day .entry)) k lent) r (now (out .exit)) ⌝ }
+{
+    if out.len() < PART_MOST {
+        return 0;
+    }
+    let number = day_number(day);
+    if number != 0 {
+        if k != 0 {
+            return 0;
+        }
+        return put_refused(out, 0, number);
+    }
+    if line_count(day) <= k {
+        return 0;
+    }
+    put_line(out, 0, day, k)
+}
+
+// Prints the 64 parts, which are the whole text, by way of the lent bytes.
+fn print_parts(day: &[u8], out: &mut [u8]) {
+    let mut k = 0;
+    while k < 64 {
+        let end = part(day, k, out);
+        io::write_all(libc::STDOUT_FILENO, &out[..end]);
+        k += 1;
+    }
+}
+
+// Prints the text of a day on standard output.
+pub fn print(day: &[u8]) {
+    let mut out = [0u8; PART_MOST];
+    print_parts(day, &mut out)
+}
