@@ -1,5 +1,5 @@
 //! Links libengine_c.a and libcutter_c.a of this repository's target/staticlib, which `rt staticlib` writes, or those of the folder
-//! MEWIKOFU_ARCHIVE_FOLDER.
+//! MEWIKOFU_ARCHIVE_FOLDER. `cargo check` needs neither, so a missing one is only told of here; rustc stops where it would link it.
 
 use std::path::{Path, PathBuf};
 
@@ -13,10 +13,12 @@ fn main() {
     for name in ["engine_c", "cutter_c"] {
         let archive = folder.join(format!("lib{name}.a"));
         println!("cargo:rerun-if-changed={}", archive.display());
-        assert!(
-            archive.exists(),
-            "target/staticlib/lib{name}.a is missing: run `rt staticlib {name}` in the repository"
-        );
+        if !archive.exists() {
+            println!(
+                "cargo:warning={} is missing: run `rt staticlib {name}` in the repository",
+                archive.display()
+            );
+        }
         println!("cargo:rustc-link-lib=static={name}");
     }
 }

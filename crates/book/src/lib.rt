@@ -1,5 +1,5 @@
 // The parts of a book (document 01, "Totals and book") written into lent bytes from a place on.
-// Each function answers the place after its part. `Written` of text/specs says what stands in the bytes then.
+// Each function answers the place after its part. `Written` of crate `text` (specs/Put.antt) says what stands in the bytes then.
 ghost use Prim.Native.Nat.{_+_, _≤_};
 ghost use mathlib.Core.List.{_++_};
 ghost use lib.ListN.{length};
@@ -37,7 +37,7 @@ fn put_words(book: &mut [u8], at: usize, a: u32, b: u32, c: u32, d: u32) -> usiz
     put_word(book, g, d)
 }
 
-// Five amounts.
+// Five amounts. The loop maintains that the first s are put.
 fn put_five(book: &mut [u8], at: usize, v: [i64; 5]) -> usize
     requires { ⌜ at + 40 ≤ length (now book) ⌝ }
     ensures { λ r. ⌜ Written 40 (now (book .entry)) at (joined 5 (moneyBytes (atZ v))) r (now (book .exit)) ⌝ }
@@ -60,7 +60,7 @@ fn put_pair(book: &mut [u8], at: usize, t: i64, a: i64) -> usize
     put_money(book, p, a)
 }
 
-// The five pairs t, a.
+// The five pairs t, a. The loop maintains that the first s are put.
 fn put_pairs(book: &mut [u8], at: usize, t: [i64; 5], a: [i64; 5]) -> usize
     requires { ⌜ at + 80 ≤ length (now book) ⌝ }
     ensures { λ r. ⌜ Written 80 (now (book .entry)) at (joined 5 (pairBytes (atZ t) (atZ a))) r (now (book .exit)) ⌝ }

@@ -8,7 +8,7 @@ ghost use Rattle.rules.specs.Book.{le, bits64, signedBytes};
 ghost use Rattle.bytes_le.specs.Wide.{longWord, signedOf};
 
 // four bytes, the lowest first
-fn join(a: u8, b: u8, c: u8, d: u8) -> u32
+fn join_bytes(a: u8, b: u8, c: u8, d: u8) -> u32
     ensures { λ r. ⌜ r ≡ a + b * 256 + c * 65536 + d * 16777216 ⌝ }
 {
     a as u32 + b as u32 * 256 + c as u32 * 65536 + d as u32 * 16777216
@@ -19,10 +19,11 @@ pub fn word_at(b: &[u8], at: usize) -> u32
     requires { ⌜ at + 4 ≤ length (now b) ⌝ }
     ensures { λ r. ⌜ r ≡ word (now (b .entry)) at ⌝ }
 {
-    join(b[at], b[at + 1], b[at + 2], b[at + 3])
+    join_bytes(b[at], b[at + 1], b[at + 2], b[at + 3])
 }
 
-fn wide(low: u32, high: u32) -> u64
+// two words, the lower first
+fn join_words(low: u32, high: u32) -> u64
     ensures { λ r. ⌜ r ≡ low + high * 4294967296 ⌝ }
 {
     low as u64 + high as u64 * 4294967296
@@ -33,7 +34,7 @@ pub fn long_at(b: &[u8], at: usize) -> u64
     requires { ⌜ at + 8 ≤ length (now b) ⌝ }
     ensures { λ r. ⌜ r ≡ longWord (now (b .entry)) at ⌝ }
 {
-    wide(word_at(b, at), word_at(b, at + 4))
+    join_words(word_at(b, at), word_at(b, at + 4))
 }
 
 // The signed number that 64 bits stand for.

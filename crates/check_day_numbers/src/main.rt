@@ -1,16 +1,13 @@
 // Reads a pack of days on standard input and prints the number of each, one a line. A day broken off, or longer than 131,072 bytes, ends
 // the run.
-
-fn long(v: u32) -> u64 {
-    v as u64
-}
+use numbers::wide;
 
 // Prints the number of the day that is the first `length` of the lent bytes. Answers whether they are so many.
 fn shown(space: &[u8], length: usize) -> bool {
     if space.len() < length {
         return false;
     }
-    io::print_decimal(1, long(day::day_number(&space[0..length])));
+    io::print_decimal(1, wide(day::day_number(&space[0..length])));
     io::write_all(1, b"\n")
 }
 

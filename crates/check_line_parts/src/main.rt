@@ -1,11 +1,8 @@
-// Reads a day of up to 4,096 bytes on standard input and prints line parts of it, also for a line far beyond the last and for headers that are
-// refused. A line has k, the number answered, the length of the part lent, and the part's first four bytes where it has any.
+// Reads a day of up to 4,096 bytes on standard input and prints line parts of it, also for a line far beyond the last and for headers
+// that are refused. A line has k, the number answered, the length of the part lent, and the part's first four bytes where it has any.
+use numbers::wide;
 
-fn long(v: u32) -> u64 {
-    v as u64
-}
-
-fn wide(v: usize) -> u64 {
+fn size(v: usize) -> u64 {
     v as u64
 }
 
@@ -20,9 +17,9 @@ fn print(v: u64) {
 
 fn show(day: &[u8], k: usize) {
     let part = day::header::line_part(day, k);
-    io::print_decimal(1, wide(k));
-    print(long(day::header::line_part_number(day, k)));
-    print(wide(part.len()));
+    io::print_decimal(1, size(k));
+    print(wide(day::header::line_part_number(day, k)));
+    print(size(part.len()));
     if part.len() > 3 {
         print(byte(part[0]));
         print(byte(part[1]));

@@ -6,7 +6,7 @@ use mathlib.Core.Path.{_≡_, refl, sym, _∙_}
 use mathlib.Core.List.{List, [], _∷_, _++_, map}
 use lib.ListN.{length, getD, replicate, length-append, length-replicate, List·getD-append}
 use lib.Seq.{getD-append-add}
-use Rattle.rules.specs.Fold.{padded, joined, sumOf, sumTo}
+use Rattle.rules.specs.Fold.{padded, joined, sumOf, sumTo, at}
 use Rattle.rules.specs.Cutting.{bits}
 use Rattle.laws.specs.Folds.{joined-suc, joined-length, sum-none}
 
@@ -79,3 +79,10 @@ pub sum-places : (l : List ℕ) → sumOf l ≡ sumTo (length l) (λ k. getD l k
 unfolding sumOf
 sum-places [] = sym (sum-none (λ k. getD [] k 0))
 sum-places (x ∷ l) = let r = sum-places l in rw (sum-front (length l) (λ k. getD (x ∷ l) k 0), r)
+
+-- the price and the flag of step j in schedule s, in the cutter's answer
+unfoldable pub priceIn : List ℕ → ℕ → ℕ → ℕ
+priceIn prices j s = getD prices (56 * s + j) 0
+
+unfoldable pub flagIn : List ℕ → ℕ → ℕ → ℕ
+flagIn words j s = bitAt (at words s) j

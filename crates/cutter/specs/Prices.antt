@@ -69,32 +69,32 @@ flag-stays w s u v h e =
     ]
 
 -- prices in order, "falling (withdrawal: rising)" being out of it, whichever the side
-in-order : (t : Bool) → ℕ → ℕ → Bool
-in-order t p q = cond t (ltb p q) (ltb q p)
+out-of-order : (t : Bool) → ℕ → ℕ → Bool
+out-of-order t p q = cond t (ltb p q) (ltb q p)
 
-in-order-same : (t : Bool) (p : ℕ) → in-order t p p ≡ false
-unfolding in-order
-in-order-same true p = le-ltb p p (omega arith)
-in-order-same false p = le-ltb p p (omega arith)
+out-of-order-same : (t : Bool) (p : ℕ) → out-of-order t p p ≡ false
+unfolding out-of-order
+out-of-order-same true p = le-ltb p p (omega arith)
+out-of-order-same false p = le-ltb p p (omega arith)
 
-in-order-trans : (t : Bool) (p q r : ℕ) → in-order t p q ≡ false → in-order t q r ≡ false → in-order t p r ≡ false
-unfolding in-order
-in-order-trans true p q r a b =
+out-of-order-trans : (t : Bool) (p q r : ℕ) → out-of-order t p q ≡ false → out-of-order t q r ≡ false → out-of-order t p r ≡ false
+unfolding out-of-order
+out-of-order-trans true p q r a b =
     let x = ltb-false p q a in
     let y = ltb-false q r b in
     le-ltb p r (omega arith)
-in-order-trans false p q r a b =
+out-of-order-trans false p q r a b =
     let x = ltb-false q p a in
     let y = ltb-false r q b in
     le-ltb r p (omega arith)
 
 pub order-same : (sd p : ℕ) → outOfOrder sd p p ≡ false
-unfolding outOfOrder in-order
-order-same sd p = in-order-same (eqb sd 1) p
+unfolding outOfOrder out-of-order
+order-same sd p = out-of-order-same (eqb sd 1) p
 
 pub order-trans : (sd p q r : ℕ) → outOfOrder sd p q ≡ false → outOfOrder sd q r ≡ false → outOfOrder sd p r ≡ false
-unfolding outOfOrder in-order
-order-trans sd p q r a b = in-order-trans (eqb sd 1) p q r a b
+unfolding outOfOrder out-of-order
+order-trans sd p q r a b = out-of-order-trans (eqb sd 1) p q r a b
 
 -- n prices of which each is in order after the one before
 pub order-places : (sd n : ℕ) (pr : ℕ → ℕ) → ((j : ℕ) → suc j < n → outOfOrder sd (pr j) (pr (suc j)) ≡ false) → (i j : ℕ) → i ≤ j → j < n → outOfOrder sd (pr i) (pr j) ≡ false

@@ -1,5 +1,6 @@
-// The steps of an accepted line (document 01, "Steps and prices"): the least of the cursors' breaks and of the hedge that is above the last end is the
-// next end, and where a cursor stands gives the step's price and flag in its schedule. No cursor moves back, and nothing in a step is decided by a branch.
+// The steps of an accepted line (document 01, "Steps and prices"): the least of the cursors' breaks and of the hedge that is above the
+// last end is the next end, and where a cursor stands gives the step's price and flag in its schedule. No cursor moves back, and
+// nothing in a step is decided by a branch.
 use bytes_le::word_at;
 use cutter_cursors::cursors::Words;
 use cutter_cursors::cursors::next_gap;
@@ -15,7 +16,8 @@ ghost use Rattle.cutter_cursors.specs.Sweep.{Line};
 // A gap that no break above an end has.
 const FAR: u32 = 2147483648;
 
-// The steps of an accepted line.
+// The steps of an accepted line. The loop maintains that the ends, prices and flags of the first n steps are written, that the cursors
+// stand where they do after the last of these ends, and that `far` is the gap to the next end.
 pub fn steps(line: &[u8]) -> Cut
     requires { ⌜ Line (now line) ⌝ }
     ensures { λ r. ⌜ r ≡ cutOf (now (line .entry)) ⌝ }

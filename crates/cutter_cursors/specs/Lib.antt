@@ -1,3 +1,3 @@
--- Definitions and the laws on them.
+-- The first break above an end by search (Search), and the cursors, the next end and what is written of a step (Sweep).
 pub mod Search
 pub mod Sweep

@@ -1,12 +1,13 @@
 -- What the sweep holds after each end, as functions of the line and that end, and what each of its moves gives.
 use Prim.Native.Nat.{ℕ, zero, suc, _+_, _*_, _-_, _^_, _≤_, _<_, min}
 use mathlib.Core.Path.{_≡_}
-use mathlib.Core.Bool.{Bool, cond}
+use mathlib.Core.Bool.{cond}
 use mathlib.Core.List.{List, [], _∷_}
 use lib.ListN.{length, getD, set}
 use lib.Dec.{eqb, ltb}
 use Rattle.rules.specs.Layout.{quantityMost, bidCount, bidBreak, bidPrice}
 use Rattle.rules.specs.Steps.{bidStep}
+use Rattle.rules.specs.Payments.{bit}
 use Rattle.laws.specs.Accepted.{AcceptedLine}
 use Rattle.cutter_cursors.specs.declared.cursors.Cursor.{Cursor}
 use Rattle.cutter_cursors.specs.declared.cursors.Sweep.{Sweep}
@@ -32,10 +33,6 @@ past = 4294967295
 unfoldable pub above : ℕ → ℕ → ℕ
 above e x = cond (ltb e x) x past
 
--- 1 where a test holds
-unfoldable pub bitIf : Bool → ℕ
-bitIf t = cond t 1 0
-
 -- the cursor of schedule s at step j of its bid
 unfoldable pub cursorAt : List ℕ → ℕ → ℕ → Cursor
 cursorAt w s j = record { at = j; head = bidBreak w s j }
@@ -55,7 +52,7 @@ stopOf c last = cond (ltb (c .at) last) (c .head) past
 
 -- the moves past the end u
 unfoldable pub stepAfter : Cursor → ℕ → ℕ → ℕ
-stepAfter c u last = min (c .at + bitIf (eqb (c .head) u)) last
+stepAfter c u last = min (c .at + bit (eqb (c .head) u)) last
 
 unfoldable pub cursorMoved : List ℕ → ℕ → Cursor → ℕ → Cursor
 cursorMoved w s c u = cursorAt w s (stepAfter c u (bidCount w s - 1))
@@ -71,14 +68,14 @@ sweepMoved w at u =
     }
 
 -- each cursor stands at a step of its bid
-pub record Within (w : List ℕ) (at : Sweep) : Type 0 where
+pub record SweepWithin (w : List ℕ) (at : Sweep) : Type 0 where
   pub first : at .first .at < bidCount w 0
   pub second : at .second .at < bidCount w 1
   pub third : at .third .at < bidCount w 2
   pub fourth : at .fourth .at < bidCount w 3
   pub fifth : at .fifth .at < bidCount w 4
 
--- how far x is above e, from 0; 2 ^ 32 more where it is not
+-- how far x is above e, counted from 0; 2 ^ 31 or more where it is not above
 unfoldable pub gapOf : ℕ → ℕ → ℕ
 gapOf x e = cond (ltb e x) (x - suc e) (x + 4294967296 - suc e)
 
@@ -104,11 +101,11 @@ pub record Room (x f n : ℕ) : Type 0 where
   pub step : n < 56
 
 pub record Markable (words : Words) (at : Sweep) (u n : ℕ) : Type 0 where
-  pub first : Room (words .first) (bitIf (ltb (at .first .head) u)) n
-  pub second : Room (words .second) (bitIf (ltb (at .second .head) u)) n
-  pub third : Room (words .third) (bitIf (ltb (at .third .head) u)) n
-  pub fourth : Room (words .fourth) (bitIf (ltb (at .fourth .head) u)) n
-  pub fifth : Room (words .fifth) (bitIf (ltb (at .fifth .head) u)) n
+  pub first : Room (words .first) (bit (ltb (at .first .head) u)) n
+  pub second : Room (words .second) (bit (ltb (at .second .head) u)) n
+  pub third : Room (words .third) (bit (ltb (at .third .head) u)) n
+  pub fourth : Room (words .fourth) (bit (ltb (at .fourth .head) u)) n
+  pub fifth : Room (words .fifth) (bit (ltb (at .fifth .head) u)) n
 
 abbrev pub withFlag : ℕ → ℕ → ℕ → ℕ
 withFlag word flag n = flag * 2 ^ n + word
@@ -116,11 +113,11 @@ withFlag word flag n = flag * 2 ^ n + word
 unfoldable pub wordsMarked : Words → Sweep → ℕ → ℕ → Words
 wordsMarked words at u n =
     record {
-      first = withFlag (words .first) (bitIf (ltb (at .first .head) u)) n;
-      second = withFlag (words .second) (bitIf (ltb (at .second .head) u)) n;
-      third = withFlag (words .third) (bitIf (ltb (at .third .head) u)) n;
-      fourth = withFlag (words .fourth) (bitIf (ltb (at .fourth .head) u)) n;
-      fifth = withFlag (words .fifth) (bitIf (ltb (at .fifth .head) u)) n;
+      first = withFlag (words .first) (bit (ltb (at .first .head) u)) n;
+      second = withFlag (words .second) (bit (ltb (at .second .head) u)) n;
+      third = withFlag (words .third) (bit (ltb (at .third .head) u)) n;
+      fourth = withFlag (words .fourth) (bit (ltb (at .fourth .head) u)) n;
+      fifth = withFlag (words .fifth) (bit (ltb (at .fifth .head) u)) n;
     }
 
 -- the rows of prices with those of step n

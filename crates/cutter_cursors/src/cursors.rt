@@ -1,7 +1,9 @@
-// The cutter's five cursors (document 01, "Steps and prices"): one for each schedule's bid, at the first break above the last end, or at the bid's
-// last where there is none. The least of their breaks and of the hedge that is above the last end is the next end.
+// The cutter's five cursors (document 01, "Steps and prices"): one for each schedule's bid, at the first break above the last end, or at
+// the bid's last where there is none. The least of their breaks and of the hedge that is above the last end is the next end.
 use bytes_le::word_at;
 use line_bids::breaks::count_of;
+use numbers::bit;
+use numbers::index;
 use numbers::lesser;
 use std::num::wrapping_sub_u32;
 ghost use mathlib.Core.Path.{_≡_};
@@ -9,7 +11,8 @@ ghost use Prim.Native.Nat.{_≤_, _<_};
 ghost use lib.ListN.{length};
 ghost use lib.Dec.{eqb};
 ghost use Rattle.rules.specs.Layout.{bidCount, bidBreak};
-ghost use Rattle.cutter_cursors.specs.Sweep.{Line, BidRead, Within, Limited, past, cursorAt, cursorMoved, bitIf, stopOf, stepAfter};
+ghost use Rattle.rules.specs.Payments as paper;
+ghost use Rattle.cutter_cursors.specs.Sweep.{Line, BidRead, SweepWithin, Limited, past, cursorAt, cursorMoved, stopOf, stepAfter};
 ghost use Rattle.cutter_cursors.specs.Sweep.{gapOf, nextGap, sweepFor, sweepMoved};
 
 // Above every break.
@@ -50,12 +53,9 @@ fn bid_break(line: &[u8], s: usize, j: usize) -> u32
 
 // 1 where a is b, else 0.
 fn same(a: u32, b: u32) -> usize
-    ensures { λ r. ⌜ r ≡ bitIf (eqb a b) ⌝ }
+    ensures { λ r. ⌜ r ≡ paper.bit (eqb a b) ⌝ }
 {
-    if a == b {
-        return 1;
-    }
-    0
+    index(bit(a == b))
 }
 
 // The break at which the cursor moves on; PAST at the bid's last step.
@@ -115,7 +115,7 @@ pub fn start(line: &[u8]) -> Sweep
 
 // After the end u.
 pub fn passed(line: &[u8], at: Sweep, u: u32) -> Sweep
-    requires { ⌜ Line (now line) × Within (now line) at × (u < past) ⌝ }
+    requires { ⌜ Line (now line) × SweepWithin (now line) at × (u < past) ⌝ }
     ensures { λ r. ⌜ r ≡ sweepMoved (now (line .entry)) at u ⌝ }
 {
     Sweep {
@@ -127,7 +127,7 @@ pub fn passed(line: &[u8], at: Sweep, u: u32) -> Sweep
     }
 }
 
-// How far x is above e, from 0; FAR or more where it is not.
+// How far x is above e, counted from 0; 2 ^ 31 or more where it is not above.
 fn gap(x: u32, e: u32) -> u32
     requires { ⌜ (x ≤ 200000000) × (e ≤ 200000000) ⌝ }
     ensures { λ r. ⌜ r ≡ gapOf x e ⌝ }

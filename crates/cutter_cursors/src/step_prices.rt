@@ -2,12 +2,15 @@
 use crate::cursors::Sweep;
 use crate::cursors::Words;
 use bytes_le::word_at;
+use numbers::bit;
+use numbers::wide;
 ghost use mathlib.Core.Path.{_≡_};
 ghost use Prim.Native.Nat.{_<_};
 ghost use lib.ListN.{length};
 ghost use lib.Dec.{ltb};
 ghost use Rattle.rules.specs.Layout.{bidPrice};
-ghost use Rattle.cutter_cursors.specs.Sweep.{Line, Within, Room, Markable, bitIf};
+ghost use Rattle.rules.specs.Payments as paper;
+ghost use Rattle.cutter_cursors.specs.Sweep.{Line, SweepWithin, Room, Markable};
 ghost use Rattle.cutter_cursors.specs.Sweep.{withFlag, wordsMarked, pricesPut};
 
 // The price of a step in schedule s while its cursor stands at bid step j, read from the line's bytes.
@@ -20,12 +23,9 @@ fn bid_price(line: &[u8], s: usize, j: usize) -> u32
 
 // The flag of a step that ends at u while the cursor stands at a break: 1 where that is below u.
 fn flag_of(head: u32, u: u32) -> u64
-    ensures { λ r. ⌜ r ≡ bitIf (ltb head u) ⌝ }
+    ensures { λ r. ⌜ r ≡ paper.bit (ltb head u) ⌝ }
 {
-    if head < u {
-        return 1;
-    }
-    0
+    wide(bit(head < u))
 }
 
 // A word of flags with the flag of step n.
@@ -52,7 +52,7 @@ pub fn marked(words: Words, at: Sweep, u: u32, n: usize) -> Words
 
 // The prices of step n, into each schedule's row.
 pub fn put_prices(line: &[u8], prices: &mut [u32; 280], at: Sweep, n: usize)
-    requires { ⌜ Line (now line) × Within (now line) at × (n < 56) ⌝ }
+    requires { ⌜ Line (now line) × SweepWithin (now line) at × (n < 56) ⌝ }
     ensures { λ _. ⌜ now (prices .exit) ≡ pricesPut (now (line .entry)) (now (prices .entry)) at n ⌝ }
 {
     prices[n] = bid_price(line, 0, at.first.at);

@@ -1,4 +1,3 @@
--- Definitions and the laws on them.
+-- The text of the cutter's answer: its lines (CutRows), and the whole (CutText).
 pub mod CutRows
--- The text of the cutter's answer.
 pub mod CutText

@@ -3,8 +3,8 @@
 use crate::rows::put_count;
 use crate::rows::put_row;
 use crate::rows::put_steps;
-use crate::rows::wide;
 use cutter::cut;
+use numbers::widened;
 use rules::Cut;
 use text::refused::put_refused;
 ghost use mathlib.Core.Path.{_≡_};
@@ -13,7 +13,7 @@ ghost use lib.ListN.{length};
 ghost use lib.Seq.{sets};
 ghost use Rattle.rules.specs.Cutting.{cutAnswer};
 ghost use Rattle.text.specs.Put.{Written};
-ghost use Rattle.cutter_text.specs.CutText.{stepsText, cutText, textMost, lentText};
+ghost use Rattle.cutter_text.specs.CutText.{acceptedText, cutText, textMost, lentText};
 
 // The bytes that no answer's text passes.
 pub const TEXT_MOST: usize = 8000;
@@ -21,14 +21,14 @@ pub const TEXT_MOST: usize = 8000;
 // The text of an answer with the number 0.
 fn put_accepted(out: &mut [u8], r: Cut, count: usize) -> usize
     requires { ⌜ (count ≡ r .count) × (count ≤ 56) × (textMost ≤ length (now out)) ⌝ }
-    ensures { λ p. ⌜ Written textMost (now (out .entry)) 0 (stepsText r) p (now (out .exit)) ⌝ }
+    ensures { λ p. ⌜ Written textMost (now (out .entry)) 0 (acceptedText r) p (now (out .exit)) ⌝ }
 {
     let flags = r.flags;
     let missing = r.missing;
     let a = put_count(out, r.count);
     let b = put_steps(out, a, r, count);
     let c = put_row(out, b, b"flags", flags);
-    put_row(out, c, b"missing", wide(missing))
+    put_row(out, c, b"missing", widened(missing))
 }
 
 // The text of an answer.

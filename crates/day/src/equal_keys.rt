@@ -1,4 +1,4 @@
-// Row 14: two lines with the same participant, point and side.
+// Refusal 14: two lines with the same participant, point and side.
 use crate::header::line_of;
 ghost use mathlib.Core.Path.{_≡_};
 ghost use Prim.Native.Nat.{_+_, _*_, _≤_, _<_};
@@ -23,7 +23,7 @@ fn same_key(v: &[u8], w: &[u8]) -> bool
     true
 }
 
-// Row 14 of line k and those before it.
+// Refusal 14 of line k and those before it. The loop maintains that no line before i has line k's key.
 fn key_number(day: &[u8], k: usize) -> u32
     requires { ⌜ (k < 64) × (64 + 660 * (k + 1) ≤ length (now day)) ⌝ }
     ensures { λ r. ⌜ r ≡ keyFault (now (day .entry)) k ⌝ }
@@ -40,7 +40,7 @@ fn key_number(day: &[u8], k: usize) -> u32
     0
 }
 
-// Row 14.
+// Refusal 14. The loop maintains that no two lines before k have the same key.
 pub fn keys_number(day: &[u8], n: usize) -> u32
     requires { ⌜ (n ≤ 64) × (64 + 660 * n ≤ length (now day)) ⌝ }
     ensures { λ r. ⌜ r ≡ first (keyFault (now (day .entry))) n ⌝ }

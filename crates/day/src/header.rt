@@ -1,24 +1,19 @@
-// A day file's header and the line part (document 01, rows 1 to 3 and 16).
+// A day file's header and the line part (document 01, refusals 1 to 3 and 16).
+use numbers::index;
 ghost use mathlib.Core.Path.{_≡_};
 ghost use Prim.Native.Nat.{_+_, _*_, _≤_, _<_};
 ghost use lib.ListN.{length};
 ghost use Rattle.rules.specs.Layout.{lineCount, lineAt};
 ghost use Rattle.rules.specs.Refusals.{headerFault, linePartFault, linePart};
 
-fn wide(v: u32) -> usize
-    ensures { λ r. ⌜ r ≡ v ⌝ }
-{
-    v as usize
-}
-
-// Rows 1 to 3.
+// Refusals 1 to 3.
 pub fn header_number(day: &[u8]) -> u32
     ensures { λ r. ⌜ r ≡ headerFault (now (day .entry)) ⌝ }
 {
     if day.len() < 64 {
         return 1;
     }
-    let n = wide(bytes_le::word_at(day, 0));
+    let n = index(bytes_le::word_at(day, 0));
     if n == 0 {
         return 2;
     }
@@ -31,7 +26,7 @@ pub fn header_number(day: &[u8]) -> u32
     if bytes_le::word_at(day, 8) != 64 {
         return 3;
     }
-    if wide(bytes_le::word_at(day, 12)) != 64 + 660 * n {
+    if index(bytes_le::word_at(day, 12)) != 64 + 660 * n {
         return 3;
     }
     if day.len() != 64 + 660 * n {
@@ -45,7 +40,7 @@ pub fn line_count(day: &[u8]) -> usize
     requires { ⌜ 4 ≤ length (now day) ⌝ }
     ensures { λ r. ⌜ r ≡ lineCount (now (day .entry)) ⌝ }
 {
-    wide(bytes_le::word_at(day, 0))
+    index(bytes_le::word_at(day, 0))
 }
 
 // The bytes of line k.

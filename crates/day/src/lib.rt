@@ -10,7 +10,7 @@ use crate::market::market_number;
 ghost use mathlib.Core.Path.{_≡_};
 ghost use Rattle.rules.specs.Refusals.{dayFault};
 
-// The number of a day file, for any bytes: rows 1 to 14 in document 01's order, 0 where it is accepted.
+// The number of a day file, for any bytes: refusals 1 to 14 in document 01's order, 0 where it is accepted.
 pub fn day_number(day: &[u8]) -> u32
     ensures { λ r. ⌜ r ≡ dayFault (now (day .entry)) ⌝ }
 {

@@ -1,4 +1,4 @@
-// The market table's refusals: rows 4 and 5.
+// The market table's refusals: refusals 4 and 5.
 use line_bids::units::Price;
 use line_bids::units::PriceRead;
 ghost use mathlib.Core.Path.{_≡_};
@@ -7,7 +7,7 @@ ghost use lib.ListN.{length};
 ghost use Rattle.rules.specs.Fold.{first};
 ghost use Rattle.rules.specs.Refusals.{marketPriceFault, markFault, marketFault};
 
-// Row 4 of the market prices.
+// Refusal 4 of the market prices. The loop maintains that no price of a schedule before s is above the limit.
 fn market_prices_number(day: &[u8]) -> u32
     requires { ⌜ 64 ≤ length (now day) ⌝ }
     ensures { λ r. ⌜ r ≡ first (marketPriceFault (now (day .entry))) 5 ⌝ }
@@ -26,7 +26,7 @@ fn market_prices_number(day: &[u8]) -> u32
     0
 }
 
-// Row 5 of the cap marks.
+// Refusal 5 of the cap marks. The loop maintains that no mark of a schedule before s is above 1.
 fn marks_number(day: &[u8]) -> u32
     requires { ⌜ 64 ≤ length (now day) ⌝ }
     ensures { λ r. ⌜ r ≡ first (markFault (now (day .entry))) 5 ⌝ }
@@ -41,7 +41,7 @@ fn marks_number(day: &[u8]) -> u32
     0
 }
 
-// Rows 4 and 5.
+// Refusals 4 and 5.
 pub fn market_number(day: &[u8]) -> u32
     requires { ⌜ 64 ≤ length (now day) ⌝ }
     ensures { λ r. ⌜ r ≡ marketFault (now (day .entry)) ⌝ }

@@ -27,7 +27,8 @@ use Rattle.step_payments.specs.declared.amounts.Money.{Money}
 use Rattle.step_pool.specs.declared.pool_amounts.SidePool.{SidePool}
 use Rattle.step_inputs.specs.declared.inputs.Market.{Market}
 use Rattle.step_inputs.specs.declared.inputs.LineTotals.{LineTotals}
-use Rattle.step_inputs.specs.Inputs.{marketOf, totalsOf, stepFrom, priceIn, flagIn}
+use Rattle.step_inputs.specs.Inputs.{marketOf, totalsOf, stepWith}
+use Rattle.cutter.specs.Arrays.{priceIn, flagIn}
 use Rattle.step_inputs.specs.Steps.{step-is, end-is}
 use Rattle.step_inputs.specs.Paid.{sized}
 use Rattle.day_pools.specs.Sums.{poolTo, pool-more, moneyTo, money-more}
@@ -72,14 +73,14 @@ module _ (d : List ℕ) (a : AcceptedDay d) (k : ℕ) (l : k < lineCount d) wher
       pub step-built : (m : Market) (t : LineTotals) (lo up : ℕ) (p f : List ℕ) (x : Step)
           → m ≡ marketOf d → t ≡ totalsOf v → lo ≡ lowerEnd (lineAt d k) j → up ≡ getD (c .ends) j 0
           → p ≡ five (priceIn (c .prices) j) → f ≡ five (flagIn (c .flags) j)
-          → x ≡ stepFrom m t lo up p f → x ≡ stepOf d k j
+          → x ≡ stepWith m t lo up p f → x ≡ stepOf d k j
       step-built m t lo up p f x me te le ue pe fe xe =
           let w = lineAt d k in
           let te′ : t ≡ totalsOf w = te ∙ ap totalsOf e in
           let ue′ : up ≡ upperEnd w j = ue ∙ end-there in
           let pe′ : p ≡ five (priceIn (cutOf w .prices) j) = pe ∙ ap (λ (z : Cut). five (priceIn (z .prices) j)) own in
           let fe′ : f ≡ five (flagIn (cutOf w .flags) j) = fe ∙ ap (λ (z : Cut). five (flagIn (z .flags) j)) own in
-          let same : stepFrom m t lo up p f ≡ stepFrom (marketOf d) (totalsOf w) (lowerEnd w j) (upperEnd w j) (five (priceIn (cutOf w .prices) j)) (five (flagIn (cutOf w .flags) j)) = rw (me, te′, le, ue′, pe′, fe′) in
+          let same : stepWith m t lo up p f ≡ stepWith (marketOf d) (totalsOf w) (lowerEnd w j) (upperEnd w j) (five (priceIn (cutOf w .prices) j)) (five (flagIn (cutOf w .flags) j)) = rw (me, te′, le, ue′, pe′, fe′) in
           xe ∙ same ∙ step-is d k j (accepted-line-at d a k l) below
 
       pub step-sized : (x : Step) → x ≡ stepOf d k j → Sized x

@@ -24,7 +24,7 @@ use Rattle.step_payments.specs.declared.amounts.Money.{Money}
 use Rattle.step_payments.specs.Kinds.{paid-most, taken-most}
 use Rattle.step_payments.specs.Parts.{changeOn}
 use Rattle.step_payments.specs.Amounts as amounts
-use Rattle.step_payments.specs.Amounts.{moneyOf, Signable, paymentOf}
+use Rattle.step_payments.specs.Amounts.{moneyOf, Signable, signedPayment}
 use Rattle.step_pool.specs.Amounts.{sumIn, noPool, finalOn, poolAt, InPool, MoneyAddable}
 use Rattle.step_pool.specs.Parts.{off-initial, money-same}
 use Rattle.step_inputs.specs.Paid.{scaled-most, sized}
@@ -80,20 +80,20 @@ unfolding moneyOf moneyTo takenOf amounts.minusOf
 taken-part = record { step = λ f. refl; sum = λ n f. refl }
 
 -- the sum of one part of the payments of a line's first n steps
-unfoldable pub partAt : (ℤ → ℕ) → List ℕ → ℕ → ℕ → ℕ → ℕ
-partAt part d s k j = part (stepFinal d s k j)
+unfoldable pub stepAmount : (ℤ → ℕ) → List ℕ → ℕ → ℕ → ℕ → ℕ
+stepAmount part d s k j = part (stepFinal d s k j)
 
 module _ (of : Money → List ℕ) (part : ℤ → ℕ) (row : Part of part) (d : List ℕ) where
-  step-place : (k j s : ℕ) → s < 5 → at (of (stepMoney d k j)) s ≡ partAt part d s k j
-  unfolding stepMoney partAt finalAt
+  step-place : (k j s : ℕ) → s < 5 → at (of (stepMoney d k j)) s ≡ stepAmount part d s k j
+  unfolding stepMoney stepAmount finalAt
   step-place k j s l = ap (λ (r : List ℕ). at r s) (row .step _) ∙ at-five (λ t. part (stepFinal d t k j)) 0 s l
 
-  pub money-place : (k n s : ℕ) → s < 5 → at (of (moneyTo n (stepMoney d k))) s ≡ sumTo n (partAt part d s k)
+  pub money-place : (k n s : ℕ) → s < 5 → at (of (moneyTo n (stepMoney d k))) s ≡ sumTo n (stepAmount part d s k)
   unfolding rowTo placeOf
   money-place k n s l =
       ap (λ (r : List ℕ). at r s) (row .sum n (stepMoney d k))
       ∙ at-five (rowTo n (λ i. of (stepMoney d k i))) 0 s l
-      ∙ sum-same n _ (partAt part d s k) (λ j h. step-place k j s l)
+      ∙ sum-same n _ (stepAmount part d s k) (λ j h. step-place k j s l)
 
   past-step : (k j s : ℕ) → 5 ≤ s → at (of (stepMoney d k j)) s ≡ 0
   unfolding stepMoney
@@ -102,13 +102,13 @@ module _ (of : Money → List ℕ) (part : ℤ → ℕ) (row : Part of part) (d 
   past-money : (k n s : ℕ) → 5 ≤ s → at (of (moneyTo n (stepMoney d k))) s ≡ 0
   past-money k n s h = ap (λ (r : List ℕ). at r s) (row .sum n (stepMoney d k)) ∙ past-five (rowTo n (λ i. of (stepMoney d k i))) s h
 
-  module _ (most : (k s : ℕ) → k < lineCount d → s < 5 → sumTo (stepCount (lineAt d k)) (partAt part d s k) ≤ 2000000000000000) where
+  module _ (most : (k s : ℕ) → k < lineCount d → s < 5 → sumTo (stepCount (lineAt d k)) (stepAmount part d s k) ≤ 2000000000000000) where
     pub part-adds : (k n : ℕ) → k < lineCount d → n < stepCount (lineAt d k) → (s : ℕ) → sumIn (of (moneyTo n (stepMoney d k))) (of (stepMoney d k n)) s < 2 ^ 64
     unfolding sumIn
     part-adds k n l h s =
         elim (decLt s 5) [
           | yes i ↦
-              let f = partAt part d s k in
+              let f = stepAmount part d s k in
               let m = sum-fewer (suc n) (stepCount (lineAt d k)) f (omega arith) in
               omega (arith, money-place k n s i, step-place k n s i, sum-suc n f, most k s l i)
           | no g ↦ omega (arith, past-money k n s (omega arith), past-step k n s (omega arith))
@@ -122,15 +122,15 @@ module _ (of : Money → List ℕ) (part : ℤ → ℕ) (row : Part of part) (d 
         ]
 
 module _ (d : List ℕ) (a : AcceptedDay d) where
-  pub line-paid-most : (k s : ℕ) → k < lineCount d → s < 5 → sumTo (stepCount (lineAt d k)) (partAt pl d s k) ≤ 2000000000000000
-  unfolding partAt stepFinal stepAt lineSum
+  pub line-paid-most : (k s : ℕ) → k < lineCount d → s < 5 → sumTo (stepCount (lineAt d k)) (stepAmount pl d s k) ≤ 2000000000000000
+  unfolding stepAmount stepFinal stepAt lineSum
   line-paid-most k s l i =
       scaled-most (stepCount (lineAt d k)) priceMost quantityMost _ (stepAt (changeOn rise) d s k)
       (λ j h. paid-most (stepOf d k j) (clawback d) s (poolOf d (side (lineAt d k)) s) (sized d a k l j h))
       (rises-most d a k s l i)
 
-  pub line-taken-most : (k s : ℕ) → k < lineCount d → s < 5 → sumTo (stepCount (lineAt d k)) (partAt mi d s k) ≤ 2000000000000000
-  unfolding partAt stepFinal stepAt lineSum
+  pub line-taken-most : (k s : ℕ) → k < lineCount d → s < 5 → sumTo (stepCount (lineAt d k)) (stepAmount mi d s k) ≤ 2000000000000000
+  unfolding stepAmount stepFinal stepAt lineSum
   line-taken-most k s l i =
       scaled-most (stepCount (lineAt d k)) priceMost quantityMost _ (stepAt (changeOn fall) d s k)
       (λ j h. taken-most (stepOf d k j) (clawback d) s (poolOf d (side (lineAt d k)) s) (sized d a k l j h))
@@ -151,12 +151,12 @@ module _ (d : List ℕ) (a : AcceptedDay d) where
       }
 
 -- the line's payment in s, from its money
-pub payment-split : (d : List ℕ) (s k : ℕ) → Split (linePayment d s k) (sumTo (stepCount (lineAt d k)) (partAt pl d s k)) (sumTo (stepCount (lineAt d k)) (partAt mi d s k))
-unfolding linePayment partAt
+pub payment-split : (d : List ℕ) (s k : ℕ) → Split (linePayment d s k) (sumTo (stepCount (lineAt d k)) (stepAmount pl d s k)) (sumTo (stepCount (lineAt d k)) (stepAmount mi d s k))
+unfolding linePayment stepAmount
 payment-split d s k = sum-split (stepCount (lineAt d k)) _ _ _ (λ j h. split-own (stepFinal d s k j))
 
-pub payment-is : (d : List ℕ) (k s : ℕ) → s < 5 → paymentOf (moneyTo (stepCount (lineAt d k)) (stepMoney d k)) s ≡ linePayment d s k
-unfolding paymentOf
+pub payment-is : (d : List ℕ) (k s : ℕ) → s < 5 → signedPayment (moneyTo (stepCount (lineAt d k)) (stepMoney d k)) s ≡ linePayment d s k
+unfolding signedPayment
 payment-is d k s l =
     let n = stepCount (lineAt d k) in
     let p = money-place (λ m. m .plus) pl paid-part d k n s l in

@@ -17,7 +17,7 @@ use Rattle.step_pool.specs.declared.pool_amounts.SidePool.{SidePool}
 use Rattle.step_payments.specs.Parts.{changeOn}
 use Rattle.step_payments.specs.Amounts as amounts
 use Rattle.step_pool.specs.Amounts.{stepPool, poolAt, differsOn}
-use Rattle.day_pools.specs.Sums.{placeOf, rowTo, plusOf, minusOf, risesOf, fallsOf, differsOf, poolTo, sum-split, some-sum}
+use Rattle.day_pools.specs.Sums.{placeOf, rowTo, plusRows, minusRows, risesRows, fallsRows, differsRows, poolTo, sum-split, some-sum}
 
 -- step j of line k, line k, and the lines of a side
 unfoldable pub stepPoolAt : List ℕ → ℕ → ℕ → SidePool
@@ -50,30 +50,30 @@ pub record Row (of : SidePool → List ℕ) (q : Step → ℕ → ℕ) : Type 0 
   pub step : (x : Step) → of (stepPool x) ≡ five (q x)
   pub sum : (n : ℕ) (f : ℕ → SidePool) → of (poolTo n f) ≡ five (rowTo n (λ i. of (f i)))
 
-unfoldable pub paidIn : Step → ℕ → ℕ
-paidIn x s = pl (revised x s)
+unfoldable pub revisedPaid : Step → ℕ → ℕ
+revisedPaid x s = pl (revised x s)
 
-unfoldable pub takenIn : Step → ℕ → ℕ
-takenIn x s = mi (revised x s)
+unfoldable pub revisedTaken : Step → ℕ → ℕ
+revisedTaken x s = mi (revised x s)
 
-pub plus-row : Row (λ p. p .plus) paidIn
-unfolding stepPool poolTo plusOf amounts.plusOf paidIn
+pub plus-row : Row (λ p. p .plus) revisedPaid
+unfolding stepPool poolTo plusRows amounts.plusOf revisedPaid
 plus-row = record { step = λ x. refl; sum = λ n f. refl }
 
-pub minus-row : Row (λ p. p .minus) takenIn
-unfolding stepPool poolTo minusOf amounts.minusOf takenIn
+pub minus-row : Row (λ p. p .minus) revisedTaken
+unfolding stepPool poolTo minusRows amounts.minusOf revisedTaken
 minus-row = record { step = λ x. refl; sum = λ n f. refl }
 
 pub rises-row : Row (λ p. p .rises) (changeOn rise)
-unfolding stepPool poolTo risesOf
+unfolding stepPool poolTo risesRows
 rises-row = record { step = λ x. refl; sum = λ n f. refl }
 
 pub falls-row : Row (λ p. p .falls) (changeOn fall)
-unfolding stepPool poolTo fallsOf
+unfolding stepPool poolTo fallsRows
 falls-row = record { step = λ x. refl; sum = λ n f. refl }
 
 pub differs-row : Row (λ p. p .differs) differsOn
-unfolding stepPool poolTo differsOf
+unfolding stepPool poolTo differsRows
 differs-row = record { step = λ x. refl; sum = λ n f. refl }
 
 module _ (of : SidePool → List ℕ) (q : Step → ℕ → ℕ) (row : Row of q) (d : List ℕ) (s : ℕ) (l : s < 5) where
@@ -112,12 +112,12 @@ module _ (of : SidePool → List ℕ) (q : Step → ℕ → ℕ) (row : Row of q
 
 -- T
 line-by : (d : List ℕ) (s k : ℕ) (t : Bool)
-    → Split (cond t (sumZ (stepCount (lineAt d k)) (stepRevised d s k)) (pos 0)) (cond t (lineSum paidIn d s k) 0) (cond t (lineSum takenIn d s k) 0)
-unfolding lineSum stepAt stepRevised paidIn takenIn
+    → Split (cond t (sumZ (stepCount (lineAt d k)) (stepRevised d s k)) (pos 0)) (cond t (lineSum revisedPaid d s k) 0) (cond t (lineSum revisedTaken d s k) 0)
+unfolding lineSum stepAt stepRevised revisedPaid revisedTaken
 line-by d s k true = sum-split (stepCount (lineAt d k)) _ _ _ (λ j h. split-own (revised (stepOf d k j) s))
 line-by d s k false = split-none
 
-total-split : (d : List ℕ) (sd s : ℕ) → Split (poolTotal d sd s) (sideSum paidIn d sd s) (sideSum takenIn d sd s)
+total-split : (d : List ℕ) (sd s : ℕ) → Split (poolTotal d sd s) (sideSum revisedPaid d sd s) (sideSum revisedTaken d sd s)
 unfolding poolTotal sideSum lineRevised sideAt
 total-split d sd s = sum-split (lineCount d) _ _ _ (λ k h. line-by d s k (ofSide d sd k))
 
@@ -144,8 +144,8 @@ pub pool-is : (d : List ℕ) (sd s : ℕ) → s < 5 → poolAt (sidePool d sd) s
 unfolding poolAt poolOf poolBase
 pool-is d sd s l =
     let t = split-is (total-split d sd s) in
-    let p = side-place (λ p. p .plus) paidIn plus-row d s l sd in
-    let m = side-place (λ p. p .minus) takenIn minus-row d s l sd in
+    let p = side-place (λ p. p .plus) revisedPaid plus-row d s l sd in
+    let m = side-place (λ p. p .minus) revisedTaken minus-row d s l sd in
     let u = side-place (λ p. p .rises) (changeOn rise) rises-row d s l sd in
     let f = side-place (λ p. p .falls) (changeOn fall) falls-row d s l sd in
     let x = side-place (λ p. p .differs) differsOn differs-row d s l sd in

@@ -25,7 +25,7 @@ use Rattle.step_pool.specs.Parts.{rise-le, fall-le}
 use Rattle.step_pool.specs.declared.pool_amounts.SidePool.{SidePool}
 use Rattle.step_inputs.specs.Paid.{scaled-most, sized, constrained-most, earlier-most, line}
 use Rattle.day_pools.specs.Sums.{rowTo, poolTo}
-use Rattle.day_pools.specs.Sides.{stepPoolAt, linePool, sidePart, sidePool, stepAt, lineSum, sideAt, sideSum, Row, paidIn, takenIn, plus-row, minus-row, rises-row, falls-row, differs-row, steps-place, part-place, lines-place, side-place}
+use Rattle.day_pools.specs.Sides.{stepPoolAt, linePool, sidePart, sidePool, stepAt, lineSum, sideAt, sideSum, Row, revisedPaid, revisedTaken, plus-row, minus-row, rises-row, falls-row, differs-row, steps-place, part-place, lines-place, side-place}
 
 -- fewer terms add up to no more
 pub sum-fewer : (m n : ℕ) (f : ℕ → ℕ) → m ≤ n → sumTo m f ≤ sumTo n f
@@ -52,8 +52,8 @@ module _ (d : List ℕ) (a : AcceptedDay d) where
       let r = sum-le (stepCount w) (stepAt (changeOn fall) d s k) (λ j. earlier (onStep (stepOf d k j)) s) (λ j h. fall-le (stepOf d k j) s) in
       omega (arith, earlier-most d a k l s i, most-limit w (line d a k l))
 
-  pub paid-most : (k s : ℕ) → k < lineCount d → s < 5 → lineSum paidIn d s k ≤ quantityMost * priceMost
-  unfolding lineSum stepAt paidIn
+  pub paid-most : (k s : ℕ) → k < lineCount d → s < 5 → lineSum revisedPaid d s k ≤ quantityMost * priceMost
+  unfolding lineSum stepAt revisedPaid
   paid-most k s l i =
       let w = lineAt d k in
       scaled-most (stepCount w) priceMost quantityMost _ (stepAt (changeOn rise) d s k)
@@ -63,8 +63,8 @@ module _ (d : List ℕ) (a : AcceptedDay d) where
       omega (arith, revised-plus x s, initial-plus x s))
       (rises-most k s l i)
 
-  pub taken-most : (k s : ℕ) → k < lineCount d → s < 5 → lineSum takenIn d s k ≤ quantityMost * priceMost
-  unfolding lineSum stepAt takenIn
+  pub taken-most : (k s : ℕ) → k < lineCount d → s < 5 → lineSum revisedTaken d s k ≤ quantityMost * priceMost
+  unfolding lineSum stepAt revisedTaken
   taken-most k s l i =
       let w = lineAt d k in
       scaled-most (stepCount w) priceMost quantityMost _ (stepAt (changeOn fall) d s k)
@@ -168,8 +168,8 @@ module _ (d : List ℕ) (a : AcceptedDay d) where
   pub steps-addable : (k n : ℕ) → k < lineCount d → n < stepCount (lineAt d k) → Addable (poolTo n (stepPoolAt d k)) (stepPoolAt d k n)
   steps-addable k n l h =
       record {
-        plus = λ s. omega (arith, steps-add (λ p. p .plus) paidIn plus-row d _ (paid-most d a) k n l h s);
-        minus = λ s. omega (arith, steps-add (λ p. p .minus) takenIn minus-row d _ (taken-most d a) k n l h s);
+        plus = λ s. omega (arith, steps-add (λ p. p .plus) revisedPaid plus-row d _ (paid-most d a) k n l h s);
+        minus = λ s. omega (arith, steps-add (λ p. p .minus) revisedTaken minus-row d _ (taken-most d a) k n l h s);
         rises = λ s. omega (arith, steps-add (λ p. p .rises) (changeOn rise) rises-row d _ (rises-most d a) k n l h s);
         falls = λ s. omega (arith, steps-add (λ p. p .falls) (changeOn fall) falls-row d _ (falls-most d a) k n l h s);
         differs = λ s. omega (arith, steps-add (λ p. p .differs) differsOn differs-row d _ (differs-most d a) k n l h s);
@@ -181,8 +181,8 @@ module _ (d : List ℕ) (a : AcceptedDay d) where
       let gas = lines-most quantityMost 12800000000 (omega arith) in
       let marks = lines-most 56 3584 (omega arith) in
       record {
-        plus = λ s. omega (arith, lines-add (λ p. p .plus) paidIn plus-row d _ (paid-most d a) sd n h s);
-        minus = λ s. omega (arith, lines-add (λ p. p .minus) takenIn minus-row d _ (taken-most d a) sd n h s);
+        plus = λ s. omega (arith, lines-add (λ p. p .plus) revisedPaid plus-row d _ (paid-most d a) sd n h s);
+        minus = λ s. omega (arith, lines-add (λ p. p .minus) revisedTaken minus-row d _ (taken-most d a) sd n h s);
         rises = λ s. omega (arith, lines-add (λ p. p .rises) (changeOn rise) rises-row d _ (rises-most d a) sd n h s);
         falls = λ s. omega (arith, lines-add (λ p. p .falls) (changeOn fall) falls-row d _ (falls-most d a) sd n h s);
         differs = λ s. omega (arith, lines-add (λ p. p .differs) differsOn differs-row d _ (differs-most d a) sd n h s);
@@ -197,5 +197,5 @@ module _ (d : List ℕ) (a : AcceptedDay d) where
         within = λ s i. step-within (λ p. p .falls) (changeOn fall) falls-row d _ (falls-most d a) k j s l h i;
         rising = λ s i. omega (arith, side-within (λ p. p .rises) (changeOn rise) rises-row d _ (rises-most d a) sd s);
         falling = λ s i. omega (arith, side-within (λ p. p .falls) (changeOn fall) falls-row d _ (falls-most d a) sd s);
-        paying = λ s i. omega (arith, side-within (λ p. p .plus) paidIn plus-row d _ (paid-most d a) sd s);
+        paying = λ s i. omega (arith, side-within (λ p. p .plus) revisedPaid plus-row d _ (paid-most d a) sd s);
       }

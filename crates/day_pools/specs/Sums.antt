@@ -33,38 +33,38 @@ row-whole f =
     five-is f (e (f 0)) (e (f 1)) (e (f 2)) (e (f 3)) (e (f 4))
 
 -- pools
-unfoldable pub plusOf : (ℕ → SidePool) → ℕ → List ℕ
-plusOf f i = f i .plus
+unfoldable pub plusRows : (ℕ → SidePool) → ℕ → List ℕ
+plusRows f i = f i .plus
 
-unfoldable pub minusOf : (ℕ → SidePool) → ℕ → List ℕ
-minusOf f i = f i .minus
+unfoldable pub minusRows : (ℕ → SidePool) → ℕ → List ℕ
+minusRows f i = f i .minus
 
-unfoldable pub risesOf : (ℕ → SidePool) → ℕ → List ℕ
-risesOf f i = f i .rises
+unfoldable pub risesRows : (ℕ → SidePool) → ℕ → List ℕ
+risesRows f i = f i .rises
 
-unfoldable pub fallsOf : (ℕ → SidePool) → ℕ → List ℕ
-fallsOf f i = f i .falls
+unfoldable pub fallsRows : (ℕ → SidePool) → ℕ → List ℕ
+fallsRows f i = f i .falls
 
-unfoldable pub differsOf : (ℕ → SidePool) → ℕ → List ℕ
-differsOf f i = f i .differs
+unfoldable pub differsRows : (ℕ → SidePool) → ℕ → List ℕ
+differsRows f i = f i .differs
 
 unfoldable pub poolTo : ℕ → (ℕ → SidePool) → SidePool
 poolTo n f =
     record {
-      plus = five (rowTo n (plusOf f));
-      minus = five (rowTo n (minusOf f));
-      rises = five (rowTo n (risesOf f));
-      falls = five (rowTo n (fallsOf f));
-      differs = five (rowTo n (differsOf f));
+      plus = five (rowTo n (plusRows f));
+      minus = five (rowTo n (minusRows f));
+      rises = five (rowTo n (risesRows f));
+      falls = five (rowTo n (fallsRows f));
+      differs = five (rowTo n (differsRows f));
     }
 
 pub pool-more : (n : ℕ) (f : ℕ → SidePool) → poolTo (n + 1) f ≡ poolSum (poolTo n f) (f n)
-unfolding poolTo poolSum plusOf minusOf risesOf fallsOf differsOf
+unfolding poolTo poolSum plusRows minusRows risesRows fallsRows differsRows
 pool-more n f = rw (row-more n (λ i. f i .plus), row-more n (λ i. f i .minus), row-more n (λ i. f i .rises), row-more n (λ i. f i .falls), row-more n (λ i. f i .differs))
 
 pub pool-whole : (n : ℕ) (f : ℕ → SidePool) (q : SidePool) → q ≡ poolTo n f → poolSum q noPool ≡ q
 unfolding poolTo poolSum noPool
-pool-whole n f q e = rw (e, row-whole (rowTo n (plusOf f)), row-whole (rowTo n (minusOf f)), row-whole (rowTo n (risesOf f)), row-whole (rowTo n (fallsOf f)), row-whole (rowTo n (differsOf f)))
+pool-whole n f q e = rw (e, row-whole (rowTo n (plusRows f)), row-whole (rowTo n (minusRows f)), row-whole (rowTo n (risesRows f)), row-whole (rowTo n (fallsRows f)), row-whole (rowTo n (differsRows f)))
 
 -- money
 unfoldable pub paidOf : (ℕ → Money) → ℕ → List ℕ

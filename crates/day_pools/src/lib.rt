@@ -1,16 +1,16 @@
 // Pools of a line's steps and of a side's lines, and what a line is paid.
+use cutter::read_step::flag_row;
+use cutter::read_step::price_row;
 use day::header::line_count;
 use day::header::line_of;
 use step_finals::finals::money_with;
 use step_inputs::inputs::Market;
-use step_inputs::inputs::flag_row;
-use step_inputs::inputs::price_row;
 use step_inputs::inputs::step_of;
 use step_inputs::inputs::totals_of;
 use step_payments::amounts::Money;
+use step_pool::adding::pool_add;
+use step_pool::adding::pool_with;
 use step_pool::pool_amounts::SidePool;
-use step_pool::side_pool::pool_add;
-use step_pool::side_pool::pool_with;
 ghost use mathlib.Core.Path.{_≡_};
 ghost use Prim.Native.Nat.{_<_};
 ghost use Rattle.rules.specs.Layout.{lineCount, lineAt, side};
@@ -40,7 +40,7 @@ pub fn empty_pool() -> SidePool
     }
 }
 
-// The pool of line k's steps.
+// The pool of line k's steps. The loop maintains that `pool` is that of the first j steps, and `lower` the last of their ends.
 fn line_pool(day: &[u8], k: usize, m: Market) -> SidePool
     requires { ⌜ (AcceptedDay (now day)) × (k < lineCount (now day)) × (m ≡ marketOf (now day)) ⌝ }
     ensures { λ r. ⌜ r ≡ linePool (now (day .entry)) k ⌝ }
@@ -84,7 +84,7 @@ fn side_part(day: &[u8], k: usize, m: Market, sd: u32) -> SidePool
     line_pool(day, k, m)
 }
 
-// The pool of a side.
+// The pool of a side. The loop maintains that `pool` is what the lines before k add to it.
 pub fn side_pool(day: &[u8], m: Market, sd: u32) -> SidePool
     requires { ⌜ (AcceptedDay (now day)) × (m ≡ marketOf (now day)) ⌝ }
     ensures { λ r. ⌜ r ≡ sidePool (now (day .entry)) sd ⌝ }
@@ -110,7 +110,8 @@ pub fn pool_for(day: &[u8], m: Market, sd: u32) -> SidePool
     side_pool(day, m, sd)
 }
 
-// What line k is paid, with the pool of its side.
+// What line k is paid, with the pool of its side. The loop maintains that `money` is what the first j steps are paid, and `lower` the last
+// of their ends.
 pub fn line_paid(day: &[u8], k: usize, m: Market, p: SidePool) -> LinePaid
     requires { ⌜ (AcceptedDay (now day)) × (k < lineCount (now day)) × (m ≡ marketOf (now day)) × (PoolFor (now day) (side (lineAt (now day) k)) p) ⌝ }
     ensures { λ r.

@@ -12,7 +12,7 @@ use Rattle.rules.specs.Fold.{sumZ, atZ}
 use Rattle.rules.specs.Totals.{carried, adjusted}
 use Rattle.laws.specs.Folds.{sumZ-none, sumZ-suc}
 use Rattle.laws.specs.Ints.{pl, mi, apart, eqZ, add-read, sub-read, nonNeg-yes}
-use Rattle.day_totals.specs.Parts.{need, isKept, Kept, Owed, Case, case-of, carried-first, carried-step}
+use Rattle.day_totals.specs.Parts.{need, isKept, KeptTotal, Owed, Case, case-of, carried-first, carried-step}
 
 -- what the schedules from s on need
 abbrev needFrom : List ℤ → ℕ → ℕ
@@ -48,7 +48,7 @@ module _ (t : List ℤ) (s : ℕ) (l : s < 5) (e a : ℤ) where
   abbrev after : ℤ
   after = e +ℤ (x -ℤ a)
 
-  after-kept : Kept t s a → mi x ≡ 0 → mi e ≡ 0 → (mi after ≡ 0) × (pl after ≡ pl e + min (pl x) (needFrom t (suc s)))
+  after-kept : KeptTotal t s a → mi x ≡ 0 → mi e ≡ 0 → (mi after ≡ 0) × (pl after ≡ pl e + min (pl x) (needFrom t (suc s)))
   after-kept c h g =
       let n : 5 - suc s ≡ 4 - s = omega arith in
       let k : pl a ≡ pl x - (mi x + needFrom t (suc s)) = rw n (c .above) in

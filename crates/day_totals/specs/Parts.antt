@@ -78,7 +78,7 @@ least-read t s (suc m) =
 abbrev pub isKept : List ℤ → ℕ → Bool
 isKept t s = eqb s 0 || nonNeg (atZ t s)
 
-pub record Kept (t : List ℤ) (s : ℕ) (a : ℤ) : Type 0 where
+pub record KeptTotal (t : List ℤ) (s : ℕ) (a : ℤ) : Type 0 where
   pub above : pl a ≡ pl (atZ t s) - (mi (atZ t s) + need t (suc s) (4 - s))
   pub below : mi a ≡ 0
 
@@ -88,7 +88,7 @@ pub record Owed (t : List ℤ) (e : ℤ) (s : ℕ) (a : ℤ) : Type 0 where
   pub below : mi a ≡ (mi (atZ t s) + mi e) - (pl (atZ t s) + pl e)
 
 abbrev pub Case : Bool → List ℤ → ℤ → ℕ → ℤ → Type 0
-Case true t e s a = Kept t s a
+Case true t e s a = KeptTotal t s a
 Case false t e s a = Owed t e s a
 
 or-right : (p q : Bool) → (p || q) ≡ false → q ≡ false

@@ -49,7 +49,7 @@ fn least(t: [i64; 5], s: usize, later: i64) -> i64
 }
 
 // The adjusted total of s, from the least and from what earlier schedules left.
-fn share(t: [i64; 5], s: usize, least: i64, left: i64) -> i64
+fn adjusted_in(t: [i64; 5], s: usize, least: i64, left: i64) -> i64
     requires { ⌜ Bounded t ⌝ }
     requires { ⌜ s < 5 ⌝ }
     requires { ⌜ least ≡ leastOf t s ⌝ }
@@ -89,14 +89,14 @@ pub fn adjusted(t: [i64; 5]) -> [i64; 5]
     let l2 = least(t, 2, l3);
     let l1 = least(t, 1, l2);
     let l0 = least(t, 0, l1);
-    let a0 = share(t, 0, l0, 0);
+    let a0 = adjusted_in(t, 0, l0, 0);
     let e1 = carry(t, 0, 0, a0);
-    let a1 = share(t, 1, l1, e1);
+    let a1 = adjusted_in(t, 1, l1, e1);
     let e2 = carry(t, 1, e1, a1);
-    let a2 = share(t, 2, l2, e2);
+    let a2 = adjusted_in(t, 2, l2, e2);
     let e3 = carry(t, 2, e2, a2);
-    let a3 = share(t, 3, l3, e3);
+    let a3 = adjusted_in(t, 3, l3, e3);
     let e4 = carry(t, 3, e3, a3);
-    let a4 = share(t, 4, l4, e4);
+    let a4 = adjusted_in(t, 4, l4, e4);
     [a0, a1, a2, a3, a4]
 }

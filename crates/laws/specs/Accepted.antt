@@ -24,7 +24,7 @@ at-most n a b e = ltb-false a b (refuse-zero n (ltb a b) e)
 equal : (n a b : ℕ) → refuse (suc n) (not (eqb a b)) ≡ 0 → a ≡ b
 equal n a b e = eqb-true a b (not-false (eqb a b) (refuse-zero n (not (eqb a b)) e))
 
--- the bid of one schedule: rows 7 to 10
+-- the bid of one schedule: refusals 7 to 10
 pub record AcceptedBid (w : List ℕ) (s : ℕ) : Type 0 where
   pub count-least : 1 ≤ bidCount w s
   pub count-most : bidCount w s ≤ 11
@@ -73,7 +73,7 @@ accepted-bid w s e =
       unused-price = λ i h. equal 9 _ 0 (uns i h .right);
     }
 
--- one line: rows 6 to 13
+-- one line: refusals 6 to 13
 pub record AcceptedLine (w : List ℕ) : Type 0 where
   pub side-most : side w ≤ 1
   pub accreditation-most : accreditation w ≤ 1
@@ -117,7 +117,7 @@ accepted-line w e =
       actual-most = λ i h. actual-is w i (first-at _ 5 (b6 .right) i h);
     }
 
--- the header: rows 1 to 3
+-- the header: refusals 1 to 3
 pub record AcceptedHeader (d : List ℕ) : Type 0 where
   pub length-least : 64 ≤ length d
   pub count-least : 1 ≤ lineCount d
@@ -141,7 +141,7 @@ accepted-header d e =
       length-is = equal 2 (length d) _ (b6 .right);
     }
 
--- the market table: rows 4 and 5
+-- the market table: refusals 4 and 5
 pub record AcceptedMarket (d : List ℕ) : Type 0 where
   pub price-most : (s : ℕ) → s < 5 → marketPrice d s ≤ 10000000
   pub cap-most : priceCap d ≤ 10000000
@@ -169,7 +169,7 @@ accepted-market d e =
       clawback-most = at-most 4 1 _ (b3 .right);
     }
 
--- a day: rows 1 to 14
+-- a day: refusals 1 to 14
 pub record AcceptedDay (d : List ℕ) : Type 0 where
   pub header : AcceptedHeader d
   pub market : AcceptedMarket d

@@ -1,2 +1,2 @@
 -- Laws that proofs of functions cite.
-pub mod Rows
+pub mod Laws

@@ -1,6 +1,3 @@
--- Definitions and the laws on them.
+-- A line's refusals in the parts that the code works out: 11 to 13 with M and the totals, then 6 and the line as a whole.
 pub mod Faults
--- Rows 11 to 13 of a line's refusals as one definition.
-pub mod Tail
--- The parts in which a line's refusals are worked out.
 pub mod Parts

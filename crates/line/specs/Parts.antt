@@ -11,6 +11,6 @@ use Rattle.rules.specs.Refusals.{lineFault}
 unfoldable pub lineFrom : List ℕ → ℕ → ℕ → ℕ
 lineFrom b at k = lineFault (take lineBytes (drop (at + lineBytes * k) b))
 
--- row 6
+-- refusal 6
 unfoldable pub headFault : List ℕ → ℕ
 headFault w = refuse 6 (ltb 1 (side w)) orElse refuse 6 (ltb 1 (accreditation w))

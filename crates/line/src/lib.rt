@@ -1,8 +1,8 @@
 // One line's 660 bytes: refusals 6 to 13.
+mod greatest_break;
 mod limits;
-mod tail;
 
-use crate::tail::tail_number;
+use crate::limits::limits_number;
 use line_bids::breaks::break_number;
 use line_bids::breaks::count_number;
 use line_bids::breaks::count_of;
@@ -14,7 +14,7 @@ ghost use Rattle.rules.specs.Fold.{first};
 ghost use Rattle.rules.specs.Refusals.{lineFault};
 ghost use Rattle.line.specs.Parts.{headFault, lineFrom};
 
-// Row 6: side and accreditation.
+// Refusal 6: side and accreditation.
 pub fn head_number(line: &[u8]) -> u32
     requires { ⌜ length (now line) ≡ 660 ⌝ }
     ensures { λ r. ⌜ r ≡ headFault (now (line .entry)) ⌝ }
@@ -28,7 +28,8 @@ pub fn head_number(line: &[u8]) -> u32
     0
 }
 
-// The refusal of `n` lines that stand one after another from byte `at` on: rows 6 to 13, the first fault met.
+// The refusal of `n` lines that stand one after another from byte `at` on: refusals 6 to 13, the first fault met.
+// The loops maintain that the lines before k, the bids of line k before s and the breaks of bid s before j have no fault.
 pub fn lines_number(b: &[u8], at: usize, n: usize) -> u32
     requires { ⌜ (n ≤ 64) × (at + 660 * n ≤ length (now b)) ⌝ }
     ensures { λ r. ⌜ r ≡ first (lineFrom (now (b .entry)) at) n ⌝ }
@@ -61,15 +62,15 @@ pub fn lines_number(b: &[u8], at: usize, n: usize) -> u32
                 break 'lines slots;
             }
         }
-        let tail = tail_number(line);
-        if tail != 0 {
-            break 'lines tail;
+        let limits = limits_number(line);
+        if limits != 0 {
+            break 'lines limits;
         }
         k += 1;
     }
 }
 
-// The refusal of one line: rows 6 to 13.
+// The refusal of one line: refusals 6 to 13.
 pub fn line_number(line: &[u8]) -> u32
     requires { ⌜ length (now line) ≡ 660 ⌝ }
     ensures { λ r. ⌜ r ≡ lineFault (now (line .entry)) ⌝ }

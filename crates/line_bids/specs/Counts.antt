@@ -1,9 +1,9 @@
--- Row 7.
+-- Refusal 7.
 use Prim.Native.Nat.{ℕ, _-_}
 use lib.Dec.{eqb, ltb}
 use Rattle.rules.specs.Fold.{refuse, _orElse_}
 use Rattle.rules.specs.Layout.{bidSlots}
 
--- row 7 of a bid of n steps
+-- refusal 7 of a bid of n steps
 unfoldable pub countFault : ℕ → ℕ
 countFault n = refuse 7 (eqb n 0) orElse refuse 7 (ltb bidSlots n)

@@ -1,6 +1,7 @@
-// A bid's count and breaks: rows 7 and 8 of the refusals.
+// A bid's count and breaks: refusals 7 and 8.
 use crate::units::Quantity;
 use crate::units::QuantityRead;
+use numbers::index;
 ghost use mathlib.Core.Path.{_≡_};
 ghost use Prim.Native.Nat.{_<_};
 ghost use lib.ListN.{length};
@@ -9,7 +10,7 @@ ghost use Rattle.rules.specs.Layout.{bidCount, bidBreak};
 ghost use Rattle.rules.specs.Refusals.{breakFault};
 ghost use Rattle.line_bids.specs.Counts.{countFault};
 
-// Row 7 of a bid of `count` steps.
+// Refusal 7 of a bid of `count` steps.
 pub fn count_number(count: usize) -> u32
     ensures { λ r. ⌜ r ≡ countFault count ⌝ }
 {
@@ -33,7 +34,7 @@ fn break_before(line: &[u8], s: usize, j: usize) -> u32
     bytes_le::word_at(line, 4 * (5 + 23 * s + 1 + (j - 1)))
 }
 
-// Row 8 at step j.
+// Refusal 8 at step j.
 pub fn break_number(line: &[u8], s: usize, j: usize) -> u32
     requires { ⌜ (length (now line) ≡ 660) × (s < 5) × (j < 11) ⌝ }
     ensures { λ r. ⌜ r ≡ breakFault (now (line .entry)) s j ⌝ }
@@ -56,11 +57,5 @@ pub fn count_of(line: &[u8], s: usize) -> usize
     requires { ⌜ (length (now line) ≡ 660) × (s < 5) ⌝ }
     ensures { λ r. ⌜ r ≡ bidCount (now (line .entry)) s ⌝ }
 {
-    wide(bytes_le::word_at(line, 4 * (5 + 23 * s)))
-}
-
-fn wide(v: u32) -> usize
-    ensures { λ r. ⌜ r ≡ v ⌝ }
-{
-    v as usize
+    index(bytes_le::word_at(line, 4 * (5 + 23 * s)))
 }

@@ -1,4 +1,4 @@
-// A bid's prices: row 9 of the refusals, and rows 9 and 10 one after the other.
+// A bid's prices: refusal 9, and refusals 9 and 10 one after the other.
 use crate::units::Price;
 use crate::units::PriceRead;
 use crate::unused_slots::unused_number;
@@ -8,25 +8,19 @@ ghost use lib.ListN.{length};
 ghost use Rattle.rules.specs.Fold.{first};
 ghost use Rattle.rules.specs.Layout.{side, bidCount};
 ghost use Rattle.rules.specs.Refusals.{outOfOrder, orderFault, priceFault};
-ghost use Rattle.line_bids.specs.Slots.{slotsFault, bit};
+ghost use Rattle.line_bids.specs.Slots.{slotsFault};
 
 // Whether price q after price p is out of order on a side.
-pub fn out_of_order(side: u32, p: u32, q: u32) -> u32
-    ensures { λ r. ⌜ r ≡ bit (outOfOrder side p q) ⌝ }
+pub fn out_of_order(side: u32, p: u32, q: u32) -> bool
+    ensures { λ r. ⌜ r ≡ outOfOrder side p q ⌝ }
 {
     if side == 1 {
-        if p < q {
-            return 1;
-        }
-        return 0;
+        return p < q;
     }
-    if q < p {
-        return 1;
-    }
-    0
+    q < p
 }
 
-// Row 9 at step j: the order.
+// Refusal 9 at step j: the order.
 fn order_number(line: &[u8], s: usize, j: usize) -> u32
     requires { ⌜ (length (now line) ≡ 660) × (s < 5) × (j < 11) ⌝ }
     ensures { λ r. ⌜ r ≡ orderFault (now (line .entry)) s j ⌝ }
@@ -36,13 +30,13 @@ fn order_number(line: &[u8], s: usize, j: usize) -> u32
     }
     let p = bytes_le::word_at(line, 4 * (5 + 23 * s + 12 + (j - 1)));
     let q = bytes_le::word_at(line, 4 * (5 + 23 * s + 12 + j));
-    if out_of_order(bytes_le::word_at(line, 8), p, q) == 1 {
+    if out_of_order(bytes_le::word_at(line, 8), p, q) {
         return 9;
     }
     0
 }
 
-// Row 9 at step j.
+// Refusal 9 at step j.
 pub fn price_number(line: &[u8], s: usize, j: usize) -> u32
     requires { ⌜ (length (now line) ≡ 660) × (s < 5) × (j < 11) ⌝ }
     ensures { λ r. ⌜ r ≡ priceFault (now (line .entry)) s j ⌝ }
@@ -54,7 +48,7 @@ pub fn price_number(line: &[u8], s: usize, j: usize) -> u32
     }
 }
 
-// Row 9 of the whole bid.
+// Refusal 9 of the whole bid. The loop maintains that no step before j has this fault.
 fn prices_number(line: &[u8], s: usize, count: usize) -> u32
     requires { ⌜ (length (now line) ≡ 660) × (s < 5) × (count ≤ 11) ⌝ }
     ensures { λ r. ⌜ r ≡ first (priceFault (now (line .entry)) s) count ⌝ }
@@ -70,7 +64,7 @@ fn prices_number(line: &[u8], s: usize, count: usize) -> u32
     0
 }
 
-// Rows 9 and 10 of the whole bid.
+// Refusals 9 and 10 of the whole bid.
 pub fn slots_number(line: &[u8], s: usize, count: usize) -> u32
     requires { ⌜ (length (now line) ≡ 660) × (s < 5) × (count ≤ 11) × (count ≡ bidCount (now line) s) ⌝ }
     ensures { λ r. ⌜ r ≡ slotsFault (now (line .entry)) s ⌝ }

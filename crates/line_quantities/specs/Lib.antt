@@ -1,3 +1,3 @@
--- Definitions and the laws on them.
+-- Sums of words of a line (Words), and of rows and tables of numbers (Sums).
 pub mod Words
 pub mod Sums

@@ -1,5 +1,5 @@
 // A line's rows: pricing totals, the operating table, actuals.
-use crate::sums::wide;
+use numbers::wide;
 ghost use mathlib.Core.Path.{_≡_};
 ghost use Prim.Native.Nat.{_<_};
 ghost use lib.ListN.{length};

@@ -1,15 +1,9 @@
 // Sums of rows of five, in 64 bits, because nothing bounds the words of the totals.
 use numbers::lesser;
+use numbers::wide;
 ghost use mathlib.Core.Path.{_≡_};
-ghost use Prim.Native.Nat.{_<_};
 ghost use Rattle.rules.specs.Fold.{five};
 ghost use Rattle.line_quantities.specs.Sums.{tableTotal, rowSum, lesserSum};
-
-pub fn wide(v: u32) -> u64
-    ensures { λ r. ⌜ (r ≡ v) × (r < 4294967296) ⌝ }
-{
-    v as u64
-}
 
 // The sum of a row.
 pub fn row_sum(row: [u32; 5]) -> u64

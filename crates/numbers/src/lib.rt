@@ -1,9 +1,11 @@
-// Plain arithmetic that the other crates share: lesser and greater, truncated difference, widening, a signed difference, and
-// a share t * d / b.
+// Plain arithmetic that the other crates share: lesser and greater, saturating difference, wider numbers, 1 for a true test, a signed
+// difference, and a share t * d / b.
 
 ghost use mathlib.Core.Path.{_≡_};
 ghost use Prim.Native.Nat.{_*_, _-_, _/_, _<_, _≤_, _^_, min, max};
 ghost use lib.IntN.{subℕ};
+ghost use Rattle.rules.specs.Fold.{five, at};
+ghost use Rattle.rules.specs.Payments as paper;
 
 pub fn lesser(a: u32, b: u32) -> u32
     ensures { λ r. ⌜ r ≡ min a b ⌝ }
@@ -18,7 +20,7 @@ pub fn greater(a: u32, b: u32) -> u32
 }
 
 // a - b, or 0 where that would be below 0
-pub fn less(a: u32, b: u32) -> u32
+pub fn saturating_sub(a: u32, b: u32) -> u32
     ensures { λ r. ⌜ r ≡ a - b ⌝ }
 {
     if b < a { a - b } else { 0 }
@@ -36,20 +38,45 @@ pub fn greater64(a: u64, b: u64) -> u64
     if a < b { b } else { a }
 }
 
-pub fn less64(a: u64, b: u64) -> u64
+pub fn saturating_sub64(a: u64, b: u64) -> u64
     ensures { λ r. ⌜ r ≡ a - b ⌝ }
 {
     if b < a { a - b } else { 0 }
 }
 
+// A word as a number of 64 bits.
 pub fn wide(x: u32) -> u64
-    ensures { λ r. ⌜ r ≡ x ⌝ }
+    ensures { λ r. ⌜ (r ≡ x) × (r < 2 ^ 32) ⌝ }
 {
     x as u64
 }
 
+// Five words as numbers of 64 bits.
+pub fn widened(q: [u32; 5]) -> [u64; 5]
+    ensures { λ r. ⌜ r ≡ five (at q) ⌝ }
+{
+    [wide(q[0]), wide(q[1]), wide(q[2]), wide(q[3]), wide(q[4])]
+}
+
+// A word as a place in a slice, or as a count of such places.
+pub fn index(x: u32) -> usize
+    ensures { λ r. ⌜ r ≡ x ⌝ }
+{
+    x as usize
+}
+
+// 1 where a test is true, else 0.
+pub fn bit(t: bool) -> u32
+    ensures { λ r. ⌜ r ≡ paper.bit t ⌝ }
+{
+    if t {
+        return 1;
+    }
+    0
+}
+
 // plus - minus
-pub fn signed(plus: u64, minus: u64) -> i64
+pub fn signed_difference(plus: u64, minus: u64) -> i64
     requires { ⌜ (plus < 2 ^ 63) × (minus < 2 ^ 63) ⌝ }
     ensures { λ r. ⌜ r ≡ subℕ plus minus ⌝ }
 {

@@ -1,8 +1,5 @@
 // A pack on standard input: for each entry its length as a word, then its bytes.
-
-fn wide(v: u32) -> usize {
-    v as usize
-}
+use numbers::index;
 
 // Fills the lent bytes with an entry. Answers whether there were so many.
 fn filled(entry: &mut [u8]) -> bool {
@@ -24,7 +21,7 @@ pub fn read(space: &mut [u8]) -> usize {
     if io::read_full(libc::STDIN_FILENO, &mut head) < 4 {
         return usize::MAX;
     }
-    let length = wide(bytes_le::word_at(&head, 0));
+    let length = index(bytes_le::word_at(&head, 0));
     if held(space, length) {
         return length;
     }

@@ -14,25 +14,25 @@ use Rattle.laws.specs.Folds.{sum-suc, sum-same, sum-most, at-five}
 use Rattle.laws.specs.Ints.{pl, mi, Split, split-is}
 use Rattle.numbers.specs.Fives.{five-same, past-five}
 use Rattle.step_payments.specs.declared.amounts.Money.{Money}
-use Rattle.step_payments.specs.Amounts.{Signable, paymentOf}
+use Rattle.step_payments.specs.Amounts.{Signable, signedPayment}
 use Rattle.step_pool.specs.Amounts.{sumIn, MoneyAddable}
 use Rattle.step_inputs.specs.Paid.{payment-size}
 use Rattle.day_totals.specs.Sizes.{Bounded}
 use Rattle.day_totals.specs.Money.{totals-bounded}
 use Rattle.day_pools.specs.Sums.{placeOf, rowTo, moneyTo, sum-split}
-use Rattle.day_pools.specs.Lines.{stepMoney, Part, paid-part, taken-part, partAt, money-place, line-paid-most, line-taken-most, payment-split, payment-is}
+use Rattle.day_pools.specs.Lines.{stepMoney, Part, paid-part, taken-part, stepAmount, money-place, line-paid-most, line-taken-most, payment-split, payment-is}
 
 -- what line k is paid and what is taken back from it
 unfoldable pub lineMoney : List ℕ → ℕ → Money
 lineMoney d k = moneyTo (stepCount (lineAt d k)) (stepMoney d k)
 
 -- one part of line k's payments in s
-unfoldable pub linePart : (ℤ → ℕ) → List ℕ → ℕ → ℕ → ℕ
-linePart part d s k = sumTo (stepCount (lineAt d k)) (partAt part d s k)
+unfoldable pub lineAmount : (ℤ → ℕ) → List ℕ → ℕ → ℕ → ℕ
+lineAmount part d s k = sumTo (stepCount (lineAt d k)) (stepAmount part d s k)
 
 module _ (of : Money → List ℕ) (part : ℤ → ℕ) (row : Part of part) (d : List ℕ) where
-  line-place : (k s : ℕ) → s < 5 → at (of (lineMoney d k)) s ≡ linePart part d s k
-  unfolding lineMoney linePart
+  line-place : (k s : ℕ) → s < 5 → at (of (lineMoney d k)) s ≡ lineAmount part d s k
+  unfolding lineMoney lineAmount
   line-place k s l = money-place of part row d k (stepCount (lineAt d k)) s l
 
   -- places past the fifth
@@ -43,16 +43,16 @@ module _ (of : Money → List ℕ) (part : ℤ → ℕ) (row : Part of part) (d 
   unfolding lineMoney
   past-line k = past-sum (stepCount (lineAt d k)) (stepMoney d k)
 
-  lines-place : (n s : ℕ) → s < 5 → at (of (moneyTo n (lineMoney d))) s ≡ sumTo n (linePart part d s)
+  lines-place : (n s : ℕ) → s < 5 → at (of (moneyTo n (lineMoney d))) s ≡ sumTo n (lineAmount part d s)
   unfolding rowTo placeOf
   lines-place n s l =
       ap (λ (r : List ℕ). at r s) (row .sum n (lineMoney d))
       ∙ at-five (rowTo n (λ i. of (lineMoney d i))) 0 s l
-      ∙ sum-same n _ (linePart part d s) (λ k h. line-place k s l)
+      ∙ sum-same n _ (lineAmount part d s) (λ k h. line-place k s l)
 
-  module _ (c : lineCount d ≤ 64) (most : (k s : ℕ) → k < lineCount d → s < 5 → linePart part d s k ≤ 2000000000000000) where
-    lines-most : (n s : ℕ) → n ≤ lineCount d → s < 5 → sumTo n (linePart part d s) ≤ n * 2000000000000000
-    lines-most n s h l = sum-most n 2000000000000000 (linePart part d s) (λ k g. most k s (omega arith) l)
+  module _ (c : lineCount d ≤ 64) (most : (k s : ℕ) → k < lineCount d → s < 5 → lineAmount part d s k ≤ 2000000000000000) where
+    lines-most : (n s : ℕ) → n ≤ lineCount d → s < 5 → sumTo n (lineAmount part d s) ≤ n * 2000000000000000
+    lines-most n s h l = sum-most n 2000000000000000 (lineAmount part d s) (λ k g. most k s (omega arith) l)
 
     pub lines-add : (k : ℕ) → k < lineCount d → (s : ℕ) → sumIn (of (moneyTo k (lineMoney d))) (of (lineMoney d k)) s < 2 ^ 64
     unfolding sumIn
@@ -70,12 +70,12 @@ module _ (of : Money → List ℕ) (part : ℤ → ℕ) (row : Part of part) (d 
         ]
 
 module _ (d : List ℕ) (a : AcceptedDay d) where
-  paid-most : (k s : ℕ) → k < lineCount d → s < 5 → linePart pl d s k ≤ 2000000000000000
-  unfolding linePart
+  paid-most : (k s : ℕ) → k < lineCount d → s < 5 → lineAmount pl d s k ≤ 2000000000000000
+  unfolding lineAmount
   paid-most k s l i = line-paid-most d a k s l i
 
-  taken-most : (k s : ℕ) → k < lineCount d → s < 5 → linePart mi d s k ≤ 2000000000000000
-  unfolding linePart
+  taken-most : (k s : ℕ) → k < lineCount d → s < 5 → lineAmount mi d s k ≤ 2000000000000000
+  unfolding lineAmount
   taken-most k s l i = line-taken-most d a k s l i
 
   -- one line more can be added
@@ -97,18 +97,18 @@ module _ (d : List ℕ) (a : AcceptedDay d) where
   day-bounded = totals-bounded d (a .header .count-most) (λ k s l i. payment-size d a k l s i)
 
 -- the total of a schedule, from the lines' money
-total-place : (d : List ℕ) (s : ℕ) → s < 5 → paymentOf (moneyTo (lineCount d) (lineMoney d)) s ≡ total d s
-unfolding paymentOf total linePart
+total-place : (d : List ℕ) (s : ℕ) → s < 5 → signedPayment (moneyTo (lineCount d) (lineMoney d)) s ≡ total d s
+unfolding signedPayment total lineAmount
 total-place d s l =
     let n = lineCount d in
     let p = lines-place (λ m. m .plus) pl paid-part d n s l in
     let m = lines-place (λ m. m .minus) mi taken-part d n s l in
-    rw (p, m) (sym (split-is (sum-split n (linePayment d s) (linePart pl d s) (linePart mi d s) (λ k h. payment-split d s k))))
+    rw (p, m) (sym (split-is (sum-split n (linePayment d s) (lineAmount pl d s) (lineAmount mi d s) (λ k h. payment-split d s k))))
 
-pub total-is : (d : List ℕ) → five (paymentOf (moneyTo (lineCount d) (lineMoney d))) ≡ five (total d)
+pub total-is : (d : List ℕ) → five (signedPayment (moneyTo (lineCount d) (lineMoney d))) ≡ five (total d)
 total-is d = five-same _ (total d) (total-place d)
 
 -- the payments of a line, from its money
-pub payments-are : (d : List ℕ) (k : ℕ) → five (paymentOf (lineMoney d k)) ≡ five (λ s. linePayment d s k)
+pub payments-are : (d : List ℕ) (k : ℕ) → five (signedPayment (lineMoney d k)) ≡ five (λ s. linePayment d s k)
 unfolding lineMoney
 payments-are d k = five-same _ (λ s. linePayment d s k) (payment-is d k)

@@ -66,7 +66,8 @@ fn put_line(
     money
 }
 
-// The lines of the book, and what they are paid in all.
+// The lines of the book, and what they are paid in all. The loop maintains that the first k are put, and that `total` is what they are
+// paid.
 fn put_lines(
     day: &[u8],
     m: Market,

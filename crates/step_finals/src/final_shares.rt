@@ -1,7 +1,7 @@
 // What a final payment takes back: T shared out over the falls of a side's paid steps (document 01, "Payments").
 use numbers::greater64;
-use numbers::less64;
 use numbers::lesser64;
+use numbers::saturating_sub64;
 use numbers::share;
 use numbers::wide;
 use step_pool::pool_amounts::SidePool;
@@ -20,7 +20,7 @@ fn shared_total(plus: u64, minus: u64, differs: u64) -> u64
     if differs == 0 {
         return 0;
     }
-    less64(plus, minus)
+    saturating_sub64(plus, minus)
 }
 
 pub fn shared_totals(p: SidePool) -> [u64; 5]

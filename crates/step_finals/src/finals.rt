@@ -1,4 +1,4 @@
-// Document 01, "Payments": the final payments of one step, which are worked out from the pool of its side.
+// The final payments of one step, which are worked out from the pool of its side (document 01, "Payments").
 use crate::final_shares::bases;
 use crate::final_shares::final_minus;
 use crate::final_shares::shared_totals;
@@ -13,11 +13,11 @@ use step_payments::rises_falls::falls;
 use step_payments::rises_falls::only_paid;
 use step_payments::rises_falls::products;
 use step_payments::rises_falls::rises;
+use step_pool::adding::add_rows;
 use step_pool::pool_amounts::Changes;
 use step_pool::pool_amounts::SidePool;
-use step_pool::side_pool::add_rows;
+use step_pool::skipped_steps::all_zero;
 use step_pool::skipped_steps::changes_on;
-use step_pool::skipped_steps::none;
 use step_pool::skipped_steps::unconstrained;
 use step_pool::skipped_steps::unpaid;
 use step_quantities::constrained::constrained_on;
@@ -123,7 +123,7 @@ pub fn money_with(m: Money, x: Step, claw: u32, p: SidePool) -> Money
     if claw == 0 {
         return money_add(m, Money { plus, minus });
     }
-    if none(minus) {
+    if all_zero(minus) {
         return money_add(m, Money { plus, minus });
     }
     money_add(

@@ -1,12 +1,10 @@
 -- The market table and a line's totals as the code holds them, and a step put together from them.
 use Prim.Native.Nat.{ℕ, _+_, _*_}
 use mathlib.Core.List.{List}
-use lib.ListN.{getD}
 use Rattle.rules.specs.Fold.{five, at}
 use Rattle.rules.specs.Layout as layout
 use Rattle.rules.specs.Quantities.{pricingTotal, operatingTotal, effectiveActual}
 use Rattle.rules.specs.declared.Step.{Step}
-use Rattle.cutter.specs.Arrays.{bitAt}
 use Rattle.step_inputs.specs.declared.inputs.Market.{Market}
 use Rattle.step_inputs.specs.declared.inputs.LineTotals.{LineTotals}
 use Rattle.step_inputs.specs.Terms.{cappedIn, paidIn}
@@ -35,8 +33,8 @@ totalsOf w =
       actual = effectiveActual w;
     }
 
-unfoldable pub stepFrom : Market → LineTotals → ℕ → ℕ → List ℕ → List ℕ → Step
-stepFrom m t l u p f =
+unfoldable pub stepWith : Market → LineTotals → ℕ → ℕ → List ℕ → List ℕ → Step
+stepWith m t l u p f =
     record {
       side = t .side;
       lower = l;
@@ -49,10 +47,3 @@ stepFrom m t l u p f =
       operating = t .operating;
       actual = t .actual;
     }
-
--- the price and the flag of step j in schedule s, in the cutter's answer
-unfoldable pub priceIn : List ℕ → ℕ → ℕ → ℕ
-priceIn prices j s = getD prices (56 * s + j) 0
-
-unfoldable pub flagIn : List ℕ → ℕ → ℕ → ℕ
-flagIn words j s = bitAt (at words s) j

@@ -12,17 +12,17 @@ use Rattle.rules.specs.Quantities.{operatingTotal, effectiveActual, actualIn}
 use Rattle.rules.specs.Payments.{stepOf, stepPrice, stepFlag, stepPaid}
 use Rattle.laws.specs.Folds.{sum-le, at-five, same-five}
 use Rattle.laws.specs.Accepted.{AcceptedLine}
-use Rattle.cutter.specs.Arrays.{bitAt, bits-at, padded-at, padded-length, rows-at}
+use Rattle.cutter.specs.Arrays.{bitAt, priceIn, flagIn, bits-at, padded-at, padded-length, rows-at}
 use Rattle.cutter.specs.Prices.{prices-at, prices-length, flags-at, flags-most}
 use Rattle.cutter.specs.Ends.{count-most}
-use Rattle.step_inputs.specs.Inputs.{marketOf, totalsOf, stepFrom, priceIn, flagIn}
+use Rattle.step_inputs.specs.Inputs.{marketOf, totalsOf, stepWith}
 use Rattle.step_inputs.specs.Terms.{cappedAt, cappedIn, paidOn, paidIn}
 
 -- the parts of `stepOf`, with the cutter's rows
 step-parts : (d : List ℕ) (k j : ℕ) (p f : List ℕ)
     → p ≡ five (λ s. price (lineAt d k) s (upperEnd (lineAt d k) j)) → f ≡ five (stepFlag d k j)
-    → stepFrom (marketOf d) (totalsOf (lineAt d k)) (lowerEnd (lineAt d k) j) (upperEnd (lineAt d k) j) p f ≡ stepOf d k j
-unfolding stepFrom marketOf totalsOf cappedIn cappedAt paidIn paidOn stepOf stepPrice stepPaid capped paid accredited hedged
+    → stepWith (marketOf d) (totalsOf (lineAt d k)) (lowerEnd (lineAt d k) j) (upperEnd (lineAt d k) j) p f ≡ stepOf d k j
+unfolding stepWith marketOf totalsOf cappedIn cappedAt paidIn paidOn stepOf stepPrice stepPaid capped paid accredited hedged
 step-parts d k j p f a b = rw (a, b)
 
 -- rows of the cutter's answer
@@ -48,7 +48,7 @@ module _ (w : List ℕ) (h : AcceptedLine w) (j : ℕ) (l : j < stepCount w) whe
 
 -- the step that the code puts together from the cutter's answer
 pub step-is : (d : List ℕ) (k j : ℕ) → AcceptedLine (lineAt d k) → j < stepCount (lineAt d k)
-    → stepFrom (marketOf d) (totalsOf (lineAt d k)) (lowerEnd (lineAt d k) j) (upperEnd (lineAt d k) j)
+    → stepWith (marketOf d) (totalsOf (lineAt d k)) (lowerEnd (lineAt d k) j) (upperEnd (lineAt d k) j)
     (five (priceIn (cutOf (lineAt d k) .prices) j)) (five (flagIn (cutOf (lineAt d k) .flags) j))
     ≡ stepOf d k j
 unfolding stepFlag

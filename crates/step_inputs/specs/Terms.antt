@@ -1,4 +1,4 @@
--- The market price under the cap, and whether a step is paid.
+-- A step's price under the cap, and whether it is paid.
 use Prim.Native.Nat.{ℕ, min}
 use mathlib.Core.List.{List}
 use mathlib.Core.Bool.{cond, not, _&&_}

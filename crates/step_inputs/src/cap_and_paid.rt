@@ -1,9 +1,10 @@
-// The market price under the cap, and whether a step is paid, by schedule.
+// A step's price under the administered price cap, and whether it is paid, by schedule.
 use numbers::lesser;
 ghost use mathlib.Core.Path.{_≡_};
 ghost use Rattle.rules.specs.Fold.{five};
 ghost use Rattle.step_inputs.specs.Terms.{cappedAt, cappedIn, paidOn, paidIn};
 
+// A price, no more than the cap where the mark is 1.
 fn capped(mark: u32, cap: u32, price: u32) -> u32
     ensures { λ r. ⌜ r ≡ cappedAt mark cap price ⌝ }
 {
@@ -13,6 +14,7 @@ fn capped(mark: u32, cap: u32, price: u32) -> u32
     price
 }
 
+// The same in each schedule.
 pub fn capped_row(mark: [u32; 5], cap: u32, price: [u32; 5]) -> [u32; 5]
     ensures { λ r. ⌜ r ≡ five (cappedIn mark cap price) ⌝ }
 {
@@ -38,6 +40,7 @@ fn paid(accreditation: u32, hedge: u32, upper: u32) -> u32
     1
 }
 
+// The same in each schedule.
 pub fn paid_row(accreditation: u32, hedge: u32, upper: u32) -> [u32; 5]
     ensures { λ r. ⌜ r ≡ five (paidIn accreditation hedge upper) ⌝ }
 {

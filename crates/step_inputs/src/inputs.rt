@@ -13,8 +13,7 @@ ghost use Prim.Native.Nat.{ℕ, _≤_, _<_, _^_};
 ghost use lib.ListN.{length};
 ghost use Rattle.rules.specs.Fold.{five, at};
 ghost use Rattle.rules.specs.Refusals.{lineFault};
-ghost use Rattle.step_inputs.specs.Inputs.{marketOf, totalsOf, stepFrom, priceIn, flagIn};
-ghost use Rattle.cutter.specs.Arrays.{bitAt};
+ghost use Rattle.step_inputs.specs.Inputs.{marketOf, totalsOf, stepWith};
 
 // The market table.
 pub struct Market {
@@ -105,7 +104,7 @@ pub fn step_of(
     price: [u32; 5],
     flag: [u32; 5],
 ) -> Step
-    ensures { λ r. ⌜ r ≡ stepFrom m t lower upper price flag ⌝ }
+    ensures { λ r. ⌜ r ≡ stepWith m t lower upper price flag ⌝ }
 {
     let mark = m.mark;
     let market = m.price;
@@ -123,39 +122,4 @@ pub fn step_of(
         operating,
         actual: t.actual,
     }
-}
-
-// The prices of step j.
-pub fn price_row(prices: &[u32; 280], j: usize) -> [u32; 5]
-    requires { ⌜ j < 56 ⌝ }
-    ensures { λ r. ⌜ r ≡ five (priceIn (now (prices .entry)) j) ⌝ }
-{
-    [
-        prices[j],
-        prices[56 + j],
-        prices[112 + j],
-        prices[168 + j],
-        prices[224 + j],
-    ]
-}
-
-fn flag_at(word: u64, j: usize) -> u32
-    requires { ⌜ j < 56 ⌝ }
-    ensures { λ r. ⌜ r ≡ bitAt word j ⌝ }
-{
-    ((word >> j) % 2) as u32
-}
-
-// The flags of step j.
-pub fn flag_row(words: [u64; 5], j: usize) -> [u32; 5]
-    requires { ⌜ j < 56 ⌝ }
-    ensures { λ r. ⌜ r ≡ five (flagIn words j) ⌝ }
-{
-    [
-        flag_at(words[0], j),
-        flag_at(words[1], j),
-        flag_at(words[2], j),
-        flag_at(words[3], j),
-        flag_at(words[4], j),
-    ]
 }

@@ -1,4 +1,4 @@
-// Document 01, "Matching": the ledger of open rises, the match table of one step and the ten matches.
+// The match table of one step and its ten matches (document 01, "Matching").
 use crate::open_rises::Ledger;
 ghost use mathlib.Core.Path.{_≡_};
 ghost use Rattle.rules.specs.Fold.{five};

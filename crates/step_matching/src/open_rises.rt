@@ -1,6 +1,6 @@
 // The ledger of open rises, newest first (document 01, "Matching"): a schedule takes from it what falls and leaves what rose.
-use numbers::less;
 use numbers::lesser;
+use numbers::saturating_sub;
 ghost use mathlib.Core.Path.{_≡_};
 ghost use lib.ListN.{replicate};
 ghost use Rattle.step_matching.specs.Ledgers.{entered};
@@ -30,7 +30,7 @@ impl Ledger {
         ensures { λ r. ⌜ r ≡ entered self before now ⌝ }
     {
         let open = self.rises;
-        let fall = less(before, now);
+        let fall = saturating_sub(before, now);
         let first = lesser(fall, open[0]);
         let past_first = fall - first;
         let second = lesser(past_first, open[1]);
@@ -38,7 +38,7 @@ impl Ledger {
         let third = lesser(past_second, open[2]);
         let fourth = lesser(past_second - third, open[3]);
         let left = [
-            less(now, before),
+            saturating_sub(now, before),
             open[0] - first,
             open[1] - second,
             open[2] - third,

@@ -35,8 +35,8 @@ unfoldable pub moneyOf : (ℕ → ℤ) → Money
 moneyOf f = record { plus = five (plusOf f); minus = five (minusOf f) }
 
 -- and back
-unfoldable pub paymentOf : Money → ℕ → ℤ
-paymentOf m s = subℕ (at (m .plus) s) (at (m .minus) s)
+unfoldable pub signedPayment : Money → ℕ → ℤ
+signedPayment m s = subℕ (at (m .plus) s) (at (m .minus) s)
 
 -- amounts that a signed number of 64 bits holds
 pub record Signable (m : Money) : Type 0 where

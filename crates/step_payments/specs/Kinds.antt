@@ -113,7 +113,7 @@ unpaid x s h =
     }
 
 -- a payment of at most b in size
-pub record Within (b : ℕ) (z : ℤ) : Type 0 where
+pub record SizeWithin (b : ℕ) (z : ℤ) : Type 0 where
   pub paid : pl z ≤ b
   pub taken : mi z ≤ b
 
@@ -129,26 +129,26 @@ pub fall-within : (x : Step) (s : ℕ) → Sized x → changeOn fall x s ≤ qua
 unfolding changeOn
 fall-within x s z = change-by (isPaid x s) (fall (onStep x) s) quantityMost (omega (arith, fall-most x s, z .upper))
 
-pub final-within : (x : Step) (claw s : ℕ) (p : Pool) → Sized x → Within (quantityMost * priceMost) (finalPayment x claw s p)
+pub final-within : (x : Step) (claw s : ℕ) (p : Pool) → Sized x → SizeWithin (quantityMost * priceMost) (finalPayment x claw s p)
 final-within x claw s p z =
     record {
       paid = omega (arith, paid-most x claw s p z, rise-within x s z);
       taken = omega (arith, taken-most x claw s p z, fall-within x s z);
     }
 
-pub initial-within : (x : Step) (s : ℕ) → Sized x → Within (quantityMost * priceMost) (initial x s)
+pub initial-within : (x : Step) (s : ℕ) → Sized x → SizeWithin (quantityMost * priceMost) (initial x s)
 initial-within x s z =
     record {
       paid = omega (arith, initial-plus x s, mul-le-mul-left (changeOn rise x s) (rate-most x s z), rise-within x s z);
       taken = omega (arith, initial-most x s z, fall-within x s z);
     }
 
-pub revised-within : (x : Step) (s : ℕ) → Sized x → Within (quantityMost * priceMost) (revised x s)
+pub revised-within : (x : Step) (s : ℕ) → Sized x → SizeWithin (quantityMost * priceMost) (revised x s)
 revised-within x s z =
     let i = initial-within x s z in
     record { paid = omega (arith, revised-plus x s, i .paid); taken = omega (arith, revised-most x s, i .taken) }
 
-pub modified-within : (x : Step) (s : ℕ) → Sized x → Within (quantityMost * priceMost) (modified x s)
+pub modified-within : (x : Step) (s : ℕ) → Sized x → SizeWithin (quantityMost * priceMost) (modified x s)
 modified-within x s z =
     let i = initial-within x s z in
     record {

@@ -1,4 +1,4 @@
-// Document 01, "Payments": the initial, revised and modified payments of one step, for the five schedules at once.
+// The initial, revised and modified payments of one step, for the five schedules at once (document 01, "Payments").
 // Money is worked out as what is paid and what is taken back, and becomes signed at the end.
 use crate::amounts::Money;
 use crate::given_back::modified_minus;
@@ -8,7 +8,7 @@ use crate::rises_falls::falls;
 use crate::rises_falls::only_paid;
 use crate::rises_falls::products;
 use crate::rises_falls::rises;
-use numbers::signed;
+use numbers::signed_difference;
 use rules::Step;
 use step_matching::matches::match_table;
 use step_quantities::constrained::constrained_on;
@@ -16,7 +16,7 @@ ghost use mathlib.Core.Path.{_≡_};
 ghost use Rattle.rules.specs.Fold.{five};
 ghost use Rattle.rules.specs.Payments as paper;
 ghost use Rattle.step_payments.specs.Sizes.{Sized};
-ghost use Rattle.step_payments.specs.Amounts.{moneyOf, paymentOf, Signable};
+ghost use Rattle.step_payments.specs.Amounts.{moneyOf, signedPayment, Signable};
 
 pub fn initial_money(x: Step) -> Money
     ensures { λ r. ⌜ r ≡ moneyOf (paper.initial x) ⌝ }
@@ -59,16 +59,16 @@ pub fn modified_money(x: Step) -> Money
 // Money as signed payments.
 pub fn signed_money(m: Money) -> [i64; 5]
     requires { ⌜ Signable m ⌝ }
-    ensures { λ r. ⌜ r ≡ five (paymentOf m) ⌝ }
+    ensures { λ r. ⌜ r ≡ five (signedPayment m) ⌝ }
 {
     let plus = m.plus;
     let minus = m.minus;
     [
-        signed(plus[0], minus[0]),
-        signed(plus[1], minus[1]),
-        signed(plus[2], minus[2]),
-        signed(plus[3], minus[3]),
-        signed(plus[4], minus[4]),
+        signed_difference(plus[0], minus[0]),
+        signed_difference(plus[1], minus[1]),
+        signed_difference(plus[2], minus[2]),
+        signed_difference(plus[3], minus[3]),
+        signed_difference(plus[4], minus[4]),
     ]
 }
 

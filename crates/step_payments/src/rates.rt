@@ -1,7 +1,7 @@
 // The rates at which changes of the quantity constrained on are paid (document 01, "Payments").
 use numbers::greater;
-use numbers::less;
 use numbers::lesser;
+use numbers::saturating_sub;
 use rules::Step;
 ghost use mathlib.Core.Path.{_≡_};
 ghost use Rattle.rules.specs.Fold.{five};
@@ -13,9 +13,9 @@ fn excess(side: u32, price: u32, market: u32) -> u32
     ensures { λ r. ⌜ r ≡ paper.excess side price market ⌝ }
 {
     if side == 1 {
-        return less(market, price);
+        return saturating_sub(market, price);
     }
-    less(price, market)
+    saturating_sub(price, market)
 }
 
 // The lesser of two prices, or the greater for a withdrawal.

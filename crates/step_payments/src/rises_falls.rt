@@ -1,5 +1,5 @@
 // Rises and falls of the quantity constrained on, by schedule, and their products with rates.
-use numbers::less;
+use numbers::saturating_sub;
 ghost use mathlib.Core.Path.{_≡_};
 ghost use mathlib.Core.Bool.{cond};
 ghost use Prim.Native.Nat.{_*_};
@@ -20,10 +20,10 @@ pub fn rises(c: [u32; 5]) -> [u32; 5]
 {
     [
         c[0],
-        less(c[1], c[0]),
-        less(c[2], c[1]),
-        less(c[3], c[2]),
-        less(c[4], c[3]),
+        saturating_sub(c[1], c[0]),
+        saturating_sub(c[2], c[1]),
+        saturating_sub(c[3], c[2]),
+        saturating_sub(c[4], c[3]),
     ]
 }
 
@@ -33,10 +33,10 @@ pub fn falls(c: [u32; 5]) -> [u32; 5]
 {
     [
         0,
-        less(c[0], c[1]),
-        less(c[1], c[2]),
-        less(c[2], c[3]),
-        less(c[3], c[4]),
+        saturating_sub(c[0], c[1]),
+        saturating_sub(c[1], c[2]),
+        saturating_sub(c[2], c[3]),
+        saturating_sub(c[3], c[4]),
     ]
 }
 

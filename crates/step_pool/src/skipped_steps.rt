@@ -15,7 +15,7 @@ ghost use Rattle.rules.specs.Payments as paper;
 ghost use Rattle.step_pool.specs.Amounts.{changesOn, allZero, isUnconstrained};
 
 // Whether all five are 0.
-pub fn none(v: [u64; 5]) -> bool
+pub fn all_zero(v: [u64; 5]) -> bool
     ensures { λ r. ⌜ r ≡ allZero v ⌝ }
 {
     let a = greater64(v[0], v[1]);

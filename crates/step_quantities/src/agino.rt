@@ -1,6 +1,6 @@
-// AGINO of a step, from the last schedule back.
-use numbers::less;
+// AGINO of a step, carried back from schedule 5 (document 01, "Quantities").
 use numbers::lesser;
+use numbers::saturating_sub;
 ghost use mathlib.Core.Path.{_≡_};
 ghost use Prim.Native.Nat.{_-_};
 ghost use Rattle.rules.specs.Fold.{five};
@@ -11,14 +11,14 @@ ghost use Rattle.rules.specs.Quantities as rule;
 fn carried_back(last: u32, o: u32, least: u32) -> u32
     ensures { λ r. ⌜ r ≡ last - (o - least) ⌝ }
 {
-    less(last, less(o, least))
+    saturating_sub(last, saturating_sub(o, least))
 }
 
 // AGINO, from O and A
 pub fn agino(o: [u32; 5], a: u32) -> [u32; 5]
     ensures { λ r. ⌜ r ≡ five (rule.agino o a) ⌝ }
 {
-    let last = less(o[4], a);
+    let last = saturating_sub(o[4], a);
     let least3 = lesser(o[3], o[4]);
     let least2 = lesser(o[2], least3);
     let least1 = lesser(o[1], least2);

@@ -1,6 +1,6 @@
-// Document 01, "Allocation": what a step takes of a line's totals.
-use numbers::less;
+// What a step takes of a line's totals (document 01, "Quantities").
 use numbers::lesser;
+use numbers::saturating_sub;
 use rules::Step;
 ghost use mathlib.Core.Path.{_≡_};
 ghost use Rattle.rules.specs.Fold.{five};
@@ -12,7 +12,7 @@ ghost use Rattle.step_quantities.specs.Rows.{allocatedIn};
 pub fn allocate(q: u32, l: u32, u: u32) -> u32
     ensures { λ r. ⌜ r ≡ rule.allocated q l u ⌝ }
 {
-    less(lesser(q, u), l)
+    saturating_sub(lesser(q, u), l)
 }
 
 // The totals q of the five schedules on the step from l to u.

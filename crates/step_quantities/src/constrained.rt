@@ -1,10 +1,10 @@
-// Document 01, "Quantities": constrained on, and AGINO and MSIQ of a step, each for the five schedules at once.
+// Constrained on, and AGINO and MSIQ of a step, each for the five schedules at once (document 01, "Quantities").
 use crate::agino::agino;
 use crate::allocation::actual_on;
 use crate::allocation::operating_on;
 use crate::allocation::pricing_on;
 use crate::msiq::msiq;
-use numbers::less;
+use numbers::saturating_sub;
 use rules::Step;
 ghost use mathlib.Core.Path.{_≡_};
 ghost use Prim.Native.Nat.{_-_};
@@ -15,7 +15,7 @@ ghost use Rattle.rules.specs.Payments as paper;
 fn constrained_in(o: u32, g: u32, q: u32) -> u32
     ensures { λ r. ⌜ r ≡ o - g - q ⌝ }
 {
-    less(less(o, g), q)
+    saturating_sub(saturating_sub(o, g), q)
 }
 
 // C, from O, AGINO and MSIQ

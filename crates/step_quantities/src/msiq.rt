@@ -1,4 +1,4 @@
-// MSIQ of a step, from the last schedule back.
+// MSIQ of a step, from the last schedule back (document 01, "Quantities").
 use numbers::lesser;
 ghost use mathlib.Core.Path.{_≡_};
 ghost use mathlib.Core.Bool.{cond};

@@ -1,5 +1,5 @@
 // Bytes and decimal numbers, written into lent bytes from a place on. Each function answers the place after its text.
-// `Written` of specs/ says what stands in the bytes then.
+// `Written` of specs/Put.antt says what stands in the bytes then.
 use bytes_le::bits;
 ghost use Prim.Native.Nat.{_+_, _≤_};
 ghost use mathlib.Core.List.{[], _∷_, _++_};
@@ -16,7 +16,7 @@ pub fn put_byte(out: &mut [u8], at: usize, b: u8) -> usize
     at + 1
 }
 
-// A byte string.
+// A byte string. The loop maintains that its first i bytes are put.
 pub fn put_bytes(out: &mut [u8], at: usize, text: &[u8]) -> usize
     requires { ⌜ at + length (now text) ≤ length (now out) ⌝ }
     ensures { λ r. ⌜ Written (length (now (text .entry))) (now (out .entry)) at (now (text .entry)) r (now (out .exit)) ⌝ }
@@ -55,7 +55,7 @@ pub fn put_signed(out: &mut [u8], at: usize, v: i64) -> usize
 }
 
 // A space and a number.
-pub fn put_unsigned(out: &mut [u8], at: usize, v: u64) -> usize
+pub fn put_spaced(out: &mut [u8], at: usize, v: u64) -> usize
     requires { ⌜ at + 21 ≤ length (now out) ⌝ }
     ensures { λ r. ⌜ Written 21 (now (out .entry)) at (space ++ decimal v) r (now (out .exit)) ⌝ }
 {

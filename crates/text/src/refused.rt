@@ -1,5 +1,5 @@
 // The line of a refusal, and a byte string with a number, written into lent bytes from a place on.
-// Each function answers the place after its text. `Written` of `digits` says what stands in the bytes then.
+// Each function answers the place after its text. `Written` of specs/Put.antt says what stands in the bytes then.
 use crate::digits::put_byte;
 use crate::digits::put_bytes;
 use crate::digits::put_decimal;

@@ -1,5 +1,5 @@
 // The lines of the report (document 01, K10), written into lent bytes from a place on.
-// Each function answers the place after its text. `Written` of crate `text` says what stands in the bytes then.
+// Each function answers the place after its text. `Written` of crate `text` (specs/Put.antt) says what stands in the bytes then.
 use text::digits::put_byte;
 use text::digits::put_bytes;
 use text::digits::put_decimal;

@@ -50,7 +50,7 @@ fn put_entry(out: &mut [u8], at: usize, book: &[u8], k: usize) -> usize
     )
 }
 
-// The lines of a book's first n entries.
+// The lines of a book's first n entries. The loop maintains that those of the first k are put.
 fn put_entries(out: &mut [u8], at: usize, book: &[u8], n: usize) -> usize
     requires { ⌜ (at + 177 * n ≤ length (now out)) × (bookLength n ≤ length (now book)) ⌝ }
     ensures { λ r. ⌜ Written (177 * n) (now (out .entry)) at (joined n (entryText (now (book .entry)))) r (now (out .exit)) ⌝ }

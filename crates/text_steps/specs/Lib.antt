@@ -1,5 +1,4 @@
--- Definitions and the laws on them.
+-- The text of one step's figures (ViewText), what the program `steps` prints (Text), and that its parts make up the whole (Parts).
 pub mod ViewText
--- What the program `steps` prints, and that its parts make up the whole.
 pub mod Text
 pub mod Parts

@@ -23,12 +23,12 @@ quantitiesIn v s =
     ∷ at (v .agino) s ∷ at (v .msiq) s ∷ at (v .constrained) s ∷ []
 
 -- initial, revised, modified and final payment in schedule s
-unfoldable pub paymentsIn : View → ℕ → List ℕ
-paymentsIn v s = numberAfter (atZ (v .initial)) s ++ numberAfter (atZ (v .revised)) s ++ numberAfter (atZ (v .modified)) s ++ numberAfter (atZ (v .finals)) s
+unfoldable pub paymentsText : View → ℕ → List ℕ
+paymentsText v s = numberAfter (atZ (v .initial)) s ++ numberAfter (atZ (v .revised)) s ++ numberAfter (atZ (v .modified)) s ++ numberAfter (atZ (v .finals)) s
 
 -- `S PRICE FLAG O E AGINO MSIQ C INITIAL REVISED MODIFIED FINAL`: schedules are printed from 1 on
 unfoldable pub scheduleRow : View → ℕ → List ℕ
-scheduleRow v s = decimal (s + 1) ++ words (quantitiesIn v s) ++ paymentsIn v s ++ lineFeed
+scheduleRow v s = decimal (s + 1) ++ words (quantitiesIn v s) ++ paymentsText v s ++ lineFeed
 
 -- `matches` and m(1,2) m(1,3) m(2,3) m(1,4) .. m(4,5)
 unfoldable pub matchesRow : List ℕ → List ℕ

@@ -25,7 +25,7 @@ ghost use Rattle.text_steps.specs.Text.{stepText, lineHead, lineSteps, p
 // The bytes that the longest part takes: a line's heading and 56 steps.
 pub const PART_MOST: usize = 93 + 56 * 1587;
 
-// The first `count` steps of line k.
+// The first `count` steps of line k. The loop maintains that the first j are put.
 fn put_steps(out: &mut [u8], at: usize, day: &[u8], k: usize, count: usize) -> usize
     requires { ⌜ at + 1587 * count ≤ length (now out) ⌝ }
     ensures { λ r. ⌜ Written (1587 * count) (now (out .entry)) at (joined count (stepText (now (day .entry)) k)) r (now (out .exit)) ⌝ }
@@ -86,7 +86,8 @@ pub fn part(day: &[u8], k: usize, out: &mut [u8]) -> usize
     put_line(out, 0, day, k)
 }
 
-// Prints the 64 parts, which are the whole text, by way of the lent bytes.
+// Prints the 64 parts, which are the whole text, by way of the lent bytes. The first k are printed after k turns, which no contract can
+// say.
 fn print_parts(day: &[u8], out: &mut [u8]) {
     let mut k = 0;
     while k < 64 {

@@ -10,7 +10,7 @@ ghost use Prim.Native.Nat.{_+_, _≤_, _<_};
 ghost use lib.ListN.{length};
 ghost use Rattle.rules.specs.Fold.{joined};
 ghost use Rattle.text.specs.Put.{Written};
-ghost use Rattle.text_steps.specs.ViewText.{quantitiesIn, paymentsIn, scheduleRow, stepHead, matchesRow, viewText};
+ghost use Rattle.text_steps.specs.ViewText.{quantitiesIn, paymentsText, scheduleRow, stepHead, matchesRow, viewText};
 
 // Price, flag, O, E, AGINO, MSIQ and C in schedule s.
 fn quantities_in(v: View, s: usize) -> [u32; 7]
@@ -31,7 +31,7 @@ fn quantities_in(v: View, s: usize) -> [u32; 7]
 // The four payments in schedule s.
 fn put_payments(out: &mut [u8], at: usize, v: View, s: usize) -> usize
     requires { ⌜ (s < 5) × (at + 88 ≤ length (now out)) ⌝ }
-    ensures { λ r. ⌜ Written 88 (now (out .entry)) at (paymentsIn v s) r (now (out .exit)) ⌝ }
+    ensures { λ r. ⌜ Written 88 (now (out .entry)) at (paymentsText v s) r (now (out .exit)) ⌝ }
 {
     let initial = v.initial;
     let revised = v.revised;
@@ -55,7 +55,7 @@ fn put_row(out: &mut [u8], at: usize, v: View, s: usize) -> usize
     put_byte(out, c, b'\n')
 }
 
-// The rows of all schedules.
+// The rows of all schedules. The loop maintains that those of the first s are put.
 fn put_rows(out: &mut [u8], at: usize, v: View) -> usize
     requires { ⌜ at + 1280 ≤ length (now out) ⌝ }
     ensures { λ r. ⌜ Written 1280 (now (out .entry)) at (joined 5 (scheduleRow v)) r (now (out .exit)) ⌝ }

@@ -1,2 +1,2 @@
--- Definitions and the laws on them.
+-- All figures of a step from the step, the clawback switch and its side's pool.
 pub mod Figures

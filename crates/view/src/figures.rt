@@ -35,7 +35,7 @@ fn final_payments(x: Step, claw: u32, p: SidePool) -> [i64; 5]
 fn width_of(lower: u32, upper: u32) -> u32
     ensures { λ r. ⌜ r ≡ upper - lower ⌝ }
 {
-    numbers::less(upper, lower)
+    numbers::saturating_sub(upper, lower)
 }
 
 // All figures of a step.

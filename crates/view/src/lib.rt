@@ -2,14 +2,14 @@
 mod figures;
 
 use crate::figures::figures;
+use cutter::read_step::flag_row;
+use cutter::read_step::price_row;
 use day::day_number;
 use day::header::line_count;
 use day::header::line_of;
 use day_pools::pool_for;
 use rules::View;
-use step_inputs::inputs::flag_row;
 use step_inputs::inputs::market_of;
-use step_inputs::inputs::price_row;
 use step_inputs::inputs::step_of;
 use step_inputs::inputs::totals_of;
 ghost use mathlib.Core.Path.{_≡_};

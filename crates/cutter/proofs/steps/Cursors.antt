@@ -12,12 +12,13 @@ use borrow.Author.Tests.{lt-ltb, le-ltb, eq-eqb, ne-eqb}
 use Rattle.rules.specs.Fold.{before, joined}
 use Rattle.rules.specs.Layout.{quantityMost, hedge, bidCount, bidBreak, bidPrice}
 use Rattle.rules.specs.Steps.{bidStep, price, flag, ends, hedgePoint, bidBreaks, stepCount, lowerEnd}
+use Rattle.rules.specs.Payments.{bit}
 use Rattle.laws.specs.Accepted.{AcceptedLine}
 use Rattle.cutter_cursors.specs.Search.{First, step-is, first-stays, first-moves}
 use Rattle.cutter.specs.Lists.{_∈_}
 use Rattle.cutter.specs.Ends.{end-of, end-most, most-limit, ends-rise}
 use Rattle.cutter.specs.Prices.{bid-first, price-min, flag-found, flag-none}
-use Rattle.cutter_cursors.specs.Sweep.{past, above, bitIf, cursorAt, cursorFor, cursorMoved, stepAfter, sweepFor, sweepMoved, gapOf, nextGap, Within, Limited}
+use Rattle.cutter_cursors.specs.Sweep.{past, above, cursorAt, cursorFor, cursorMoved, stepAfter, sweepFor, sweepMoved, gapOf, nextGap, SweepWithin, Limited}
 use Rattle.cutter_cursors.specs.declared.cursors.Sweep.{Sweep}
 use Rattle.cutter.proofs.steps.Least.{above-in, above-not, leastAbove, least-append, least-rising, least-one, least-before, least-after, least-next}
 
@@ -78,8 +79,7 @@ module _ (w : List ℕ) (h : AcceptedLine w) (s : ℕ) (l : s < 5) (e : ℕ) whe
       let c = h .bids s l .count-least in
       sym (price-min w s u c ∙ ap (λ (j : ℕ). bidPrice w s (min j (bidCount w s - 1))) (step-stays u a b))
 
-  pub cursor-flag : (u : ℕ) → suc e ≤ u → u ≤ above e (cursorFor w s e .head) → bitIf (ltb (cursorFor w s e .head) u) ≡ flag w s u
-  unfolding bitIf
+  pub cursor-flag : (u : ℕ) → suc e ≤ u → u ≤ above e (cursorFor w s e .head) → bit (ltb (cursorFor w s e .head) u) ≡ flag w s u
   cursor-flag u a b =
       let q = step-stays u a b in
       elim (decLt (bidStep w s (suc e)) (bidCount w s)) [
@@ -109,8 +109,7 @@ module _ (w : List ℕ) (h : AcceptedLine w) (s : ℕ) (l : s < 5) (e : ℕ) whe
       ]
 
   -- past u the cursor is the one at u
-  after-in : (u : ℕ) → suc e ≤ u → bidStep w s (suc e) < bidCount w s → u ≤ bidBreak w s (bidStep w s (suc e)) → bidStep w s (suc e) + bitIf (eqb (bidBreak w s (bidStep w s (suc e))) u) ≡ bidStep w s (suc u)
-  unfolding bitIf
+  after-in : (u : ℕ) → suc e ≤ u → bidStep w s (suc e) < bidCount w s → u ≤ bidBreak w s (bidStep w s (suc e)) → bidStep w s (suc e) + bit (eqb (bidBreak w s (bidStep w s (suc e))) u) ≡ bidStep w s (suc u)
   after-in u a j b =
       let f = bid-first w s (suc e) in
       let r = rises-next (bidBreak w s) (bidCount w s) (h .bids s l .rises) in
@@ -129,7 +128,7 @@ module _ (w : List ℕ) (h : AcceptedLine w) (s : ℕ) (l : s < 5) (e : ℕ) whe
       ]
 
   step-moves : (u : ℕ) → suc e ≤ u → u ≤ above e (cursorFor w s e .head) → stepAfter (cursorFor w s e) u (bidCount w s - 1) ≡ min (bidStep w s (suc u)) (bidCount w s - 1)
-  unfolding stepAfter cursorFor cursorAt bitIf
+  unfolding stepAfter cursorFor cursorAt
   step-moves u a b =
       let f = bid-first w s (suc e) in
       elim (decLt (bidStep w s (suc e)) (bidCount w s)) [
@@ -199,7 +198,7 @@ sweep-moves w h e u a m =
       fifth = cursor-moves w h 4 (omega arith) e u a (m .fifth) i;
     }
 
-pub sweep-within : (w : List ℕ) → AcceptedLine w → (e : ℕ) → Within w (sweepFor w e)
+pub sweep-within : (w : List ℕ) → AcceptedLine w → (e : ℕ) → SweepWithin w (sweepFor w e)
 unfolding sweepFor
 sweep-within w h e =
     record {

@@ -19,7 +19,7 @@ use Rattle.cutter.specs.Lists.{in-at}
 use Rattle.cutter.specs.Ends.{end-of, end-most, most-limit, count-most}
 use Rattle.cutter.specs.Prices.{flag-most, prices-length, prices-at, flags-length, flags-at, flags-most}
 use Rattle.cutter.specs.Arrays.{padded-length}
-use Rattle.cutter_cursors.specs.Sweep.{Line, Room, Markable, Within, Limited, past, sweepFor, sweepMoved, nextGap, withFlag, wordsMarked, pricesPut}
+use Rattle.cutter_cursors.specs.Sweep.{Line, Room, Markable, SweepWithin, Limited, past, sweepFor, sweepMoved, nextGap, withFlag, wordsMarked, pricesPut}
 use Rattle.cutter_cursors.specs.declared.cursors.Sweep.{Sweep}
 use Rattle.cutter_cursors.specs.declared.cursors.Words.{Words}
 use Rattle.cutter.proofs.steps.Cursors.{AtMost, at-most, cursor-price, cursor-flag, sweep-moves, sweep-next, sweep-within, sweep-limited, Gap, near, none, sweep-gap}
@@ -209,7 +209,7 @@ module _ {w : List ℕ} {n : ℕ} {at : Sweep} {e g : ℕ} {es ps : List ℕ} {x
         fifth = room-for 4 _ (cursor-flag w (h .accepted) 4 (omega arith) b (e + 1 + g) rises (m .fifth));
       })
 
-  pub at-within : Within w at
+  pub at-within : SweepWithin w at
   at-within = rw (v .here) (sweep-within w (h .accepted) (lowerEnd w n))
 
   moves : sweepMoved w at (e + 1 + g) ≡ sweepFor w (lowerEnd w (suc n))

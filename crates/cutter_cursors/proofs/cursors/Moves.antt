@@ -12,37 +12,24 @@ use lib.Pow.{shl-exact}
 use borrow.Author.Tests.{lt-ltb, le-ltb, eq-eqb, ne-eqb}
 use Rattle.rules.specs.Layout.{quantityMost, bidCount, bidBreak, bidPrice}
 use Rattle.rules.specs.Steps.{bidStep}
+use Rattle.rules.specs.Payments.{bit}
 use Rattle.cutter_cursors.specs.Search.{First, step-is}
-use Rattle.cutter_cursors.specs.Sweep.{Line, BidRead, Room, past, bitIf, cursorAt, cursorFor, cursorMoved, stopOf, stepAfter, sweepFor, sweepMoved, gapOf, nextGap}
+use Rattle.cutter_cursors.specs.Sweep.{Line, BidRead, Room, past, cursorAt, cursorFor, cursorMoved, stopOf, stepAfter, sweepFor, sweepMoved, gapOf, nextGap}
 use Rattle.cutter_cursors.specs.Sweep.{withFlag, wordsMarked, pricesPut}
 use Rattle.cutter_cursors.specs.declared.cursors.Cursor.{Cursor}
 use Rattle.cutter_cursors.specs.declared.cursors.Sweep.{Sweep}
 use Rattle.cutter_cursors.specs.declared.cursors.Words.{Words}
 
 -- a test as a number
-pub bit-eq : (a b : ℕ) → a ≡ b → 1 ≡ bitIf (eqb a b)
-unfolding bitIf
-bit-eq a b e = rw (eq-eqb a b e)
-
-pub bit-ne : (a b : ℕ) → (a ≡ b → ⊥) → 0 ≡ bitIf (eqb a b)
-unfolding bitIf
+bit-ne : (a b : ℕ) → (a ≡ b → ⊥) → 0 ≡ bit (eqb a b)
 bit-ne a b e = rw (ne-eqb a b e)
 
-pub bit-lt : (a b : ℕ) → a < b → 1 ≡ bitIf (ltb a b)
-unfolding bitIf
-bit-lt a b e = rw (lt-ltb a b e)
-
-pub bit-le : (a b : ℕ) → b ≤ a → 0 ≡ bitIf (ltb a b)
-unfolding bitIf
-bit-le a b e = rw (le-ltb a b e)
-
-pub bit-most : (t : Bool) → bitIf t ≤ 1
-unfolding bitIf
+bit-most : (t : Bool) → bit t ≤ 1
 bit-most true = omega arith
 bit-most false = omega arith
 
-pub bit-one : (t : Bool) {m : ℕ} → m ≡ bitIf t → m ≤ 1
-bit-one t e = let b = bit-most t in omega arith
+pub bit-one : (a b : ℕ) {m : ℕ} → m ≡ bit (eqb a b) → m ≤ 1
+bit-one a b e = let m = bit-most (eqb a b) in omega arith
 
 -- the step after an end
 pub stop-more : (c : Cursor) (last : ℕ) → c .at < last → c .head ≡ stopOf c last
@@ -53,13 +40,13 @@ pub stop-last : (c : Cursor) (last : ℕ) → last ≤ c .at → past ≡ stopOf
 unfolding stopOf
 stop-last c last l = rw (le-ltb (c .at) last l)
 
-pub after-is : (c : Cursor) (u last : ℕ) {k m : ℕ} → k ≡ stopOf c last → m ≡ bitIf (eqb k u) → c .at ≤ last → u < past → c .at + m ≡ stepAfter c u last
+pub after-is : (c : Cursor) (u last : ℕ) {k m : ℕ} → k ≡ stopOf c last → m ≡ bit (eqb k u) → c .at ≤ last → u < past → c .at + m ≡ stepAfter c u last
 unfolding stepAfter
 after-is c u last {k} {m} f e h p =
     let b = bit-most (eqb (c .head) u) in
     elim (decLt (c .at) last) [
       | yes l ↦
-          let g : m ≡ bitIf (eqb (c .head) u) = e ∙ ap (λ (x : ℕ). bitIf (eqb x u)) (f ∙ sym (stop-more c last l)) in
+          let g : m ≡ bit (eqb (c .head) u) = e ∙ ap (λ (x : ℕ). bit (eqb x u)) (f ∙ sym (stop-more c last l)) in
           omega arith
       | no l ↦
           let z = stop-last c last (omega arith) in
@@ -140,7 +127,7 @@ flag-put x f n r =
 pub room-of : {x f g n : ℕ} → f ≡ g → Room x g n → Room x f n
 room-of {x} {f} {g} {n} e r = subst (λ (y : ℕ). Room x y n) (sym e) r
 
-pub marked-is : (x : Words) (at : Sweep) (u n : ℕ) {a b c d e f g h i j : ℕ} → f ≡ bitIf (ltb (at .first .head) u) → a ≡ withFlag (x .first) f n → g ≡ bitIf (ltb (at .second .head) u) → b ≡ withFlag (x .second) g n → h ≡ bitIf (ltb (at .third .head) u) → c ≡ withFlag (x .third) h n → i ≡ bitIf (ltb (at .fourth .head) u) → d ≡ withFlag (x .fourth) i n → j ≡ bitIf (ltb (at .fifth .head) u) → e ≡ withFlag (x .fifth) j n → _≡_ {A = Words} (record { first = a; second = b; third = c; fourth = d; fifth = e }) (wordsMarked x at u n)
+pub marked-is : (x : Words) (at : Sweep) (u n : ℕ) {a b c d e f g h i j : ℕ} → f ≡ bit (ltb (at .first .head) u) → a ≡ withFlag (x .first) f n → g ≡ bit (ltb (at .second .head) u) → b ≡ withFlag (x .second) g n → h ≡ bit (ltb (at .third .head) u) → c ≡ withFlag (x .third) h n → i ≡ bit (ltb (at .fourth .head) u) → d ≡ withFlag (x .fourth) i n → j ≡ bit (ltb (at .fifth .head) u) → e ≡ withFlag (x .fifth) j n → _≡_ {A = Words} (record { first = a; second = b; third = c; fourth = d; fifth = e }) (wordsMarked x at u n)
 unfolding wordsMarked
 marked-is x at u n f a g b h c i d j e =
     λ k.

@@ -1,4 +1,4 @@
--- Row 14, from what the code has read.
+-- Refusal 14, from what the code has read.
 use Prim.Native.Nat.{ℕ, _-_}
 use mathlib.Core.Path.{_≡_, sym, _∙_}
 use mathlib.Core.List.{List}
@@ -10,7 +10,7 @@ use Rattle.rules.specs.Layout.{lineAt, participant, point, side}
 use Rattle.rules.specs.Refusals.{sameKey, pairFault, keyFault}
 use Rattle.laws.specs.Folds.{ends-at, none-at}
 
--- row 14
+-- refusal 14
 module _ (v w : List ℕ) (a b : ℕ) (pa : a ≡ participant v) (pb : b ≡ participant w) where
   pub other-participant : (a ≡ b → ⊥) → false ≡ sameKey v w
   unfolding sameKey

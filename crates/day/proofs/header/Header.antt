@@ -13,7 +13,7 @@ use Rattle.rules.specs.Refusals.{headerFault, linePartFault, linePart}
 use Rattle.laws.specs.Folds.{not-eq, not-ne, stops, passes, ends-at, none-at, part-stops, part-passes}
 use Rattle.laws.specs.Accepted.{AcceptedHeader, accepted-header}
 
--- rows 1 to 3, with the words that were read
+-- refusals 1 to 3, with the words that were read
 module _ (d : List ℕ) where
   pub header-short : length d < 64 → 1 ≡ headerFault d
   unfolding headerFault

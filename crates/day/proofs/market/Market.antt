@@ -14,7 +14,7 @@ use Rattle.line_bids.specs.Kinds.{priceRead}
 use Rattle.line_bids.proofs.units.Reading.{price-within-is, price-above-is}
 use Rattle.day.proofs.header.Header.{Within}
 
--- row 4 of one market price
+-- refusal 4 of one market price
 pub market-price-above : (d : List ℕ) (s : ℕ) → PriceRead.Above ≡ priceRead (marketPrice d s) → 4 ≡ marketPriceFault d s
 unfolding marketPriceFault
 market-price-above d s h = ends-at 4 _ (lt-ltb 10000000 (marketPrice d s) (price-above-is (marketPrice d s) h))
@@ -23,7 +23,7 @@ pub market-price-within : (d : List ℕ) (s : ℕ) (p : Price) → PriceRead.Wit
 unfolding marketPriceFault
 market-price-within d s p h = none-at 4 _ (le-ltb 10000000 (marketPrice d s) (price-within-is (marketPrice d s) p h))
 
--- row 5 of one mark
+-- refusal 5 of one mark
 pub mark-above : (d : List ℕ) (s x : ℕ) → x ≡ capMark d s → 1 < x → 5 ≡ markFault d s
 unfolding markFault
 mark-above d s x e h = ends-at 5 _ (lt-ltb 1 (capMark d s) (subst (λ (k : ℕ). 1 < k) e h))
@@ -32,7 +32,7 @@ pub mark-within : (d : List ℕ) (s x : ℕ) → x ≡ capMark d s → x ≤ 1 �
 unfolding markFault
 mark-within d s x e h = none-at 5 _ (le-ltb 1 (capMark d s) (subst (λ (k : ℕ). k ≤ 1) e h))
 
--- rows 4 and 5
+-- refusals 4 and 5
 module _ (d : List ℕ) (p : ℕ) (prices : p ≡ first (marketPriceFault d) 5) where
   pub market-prices : (p ≡ 0 → ⊥) → p ≡ marketFault d
   unfolding marketFault

@@ -31,7 +31,7 @@ least-requires-4 c κs =
     let b = c .before .before .before .before .pre in
     (b, (omega arith, read-back (c .least3 .ensures) (least-fits t b 1 (omega arith))))
 
-share-requires : tie.Need-share-requires
+share-requires : tie.Need-adjusted-in-requires
 share-requires c κs =
     let t = c .before .before .before .before .before .args .t1 in
     let b = c .before .before .before .before .before .pre in
@@ -41,9 +41,9 @@ carry-requires : tie.Need-carry-requires
 carry-requires c κs =
     let t = c .before .before .before .before .before .before .args .t1 in
     let b = c .before .before .before .before .before .before .pre in
-    (b, (omega arith, (sym (carried-first t), read-back (c .share .ensures) (adjusted-fits t b 0 (omega arith)))))
+    (b, (omega arith, (sym (carried-first t), read-back (c .adjusted-in .ensures) (adjusted-fits t b 0 (omega arith)))))
 
-share-requires-2 : tie.Need-share-requires-2
+share-requires-2 : tie.Need-adjusted-in-requires-2
 share-requires-2 c κs =
     let t = c .before .before .before .before .before .before .before .args .t1 in
     let b = c .before .before .before .before .before .before .before .pre in
@@ -53,9 +53,9 @@ carry-requires-2 : tie.Need-carry-requires-2
 carry-requires-2 c κs =
     let t = c .before .before .before .before .before .before .before .before .args .t1 in
     let b = c .before .before .before .before .before .before .before .before .pre in
-    (b, (omega arith, (read-back (c .before .carry .ensures) (carried-fits t b 1 (omega arith)), read-back (c .share2 .ensures) (adjusted-fits t b 1 (omega arith)))))
+    (b, (omega arith, (read-back (c .before .carry .ensures) (carried-fits t b 1 (omega arith)), read-back (c .adjusted-in2 .ensures) (adjusted-fits t b 1 (omega arith)))))
 
-share-requires-3 : tie.Need-share-requires-3
+share-requires-3 : tie.Need-adjusted-in-requires-3
 share-requires-3 c κs =
     let t = c .before .before .before .before .before .before .before .before .before .args .t1 in
     let b = c .before .before .before .before .before .before .before .before .before .pre in
@@ -65,9 +65,9 @@ carry-requires-3 : tie.Need-carry-requires-3
 carry-requires-3 c κs =
     let t = c .before .before .before .before .before .before .before .before .before .before .args .t1 in
     let b = c .before .before .before .before .before .before .before .before .before .before .pre in
-    (b, (omega arith, (read-back (c .before .carry2 .ensures) (carried-fits t b 2 (omega arith)), read-back (c .share3 .ensures) (adjusted-fits t b 2 (omega arith)))))
+    (b, (omega arith, (read-back (c .before .carry2 .ensures) (carried-fits t b 2 (omega arith)), read-back (c .adjusted-in3 .ensures) (adjusted-fits t b 2 (omega arith)))))
 
-share-requires-4 : tie.Need-share-requires-4
+share-requires-4 : tie.Need-adjusted-in-requires-4
 share-requires-4 c κs =
     let t = c .before .before .before .before .before .before .before .before .before .before .before .args .t1 in
     let b = c .before .before .before .before .before .before .before .before .before .before .before .pre in
@@ -77,9 +77,9 @@ carry-requires-4 : tie.Need-carry-requires-4
 carry-requires-4 c κs =
     let t = c .before .before .before .before .before .before .before .before .before .before .before .before .args .t1 in
     let b = c .before .before .before .before .before .before .before .before .before .before .before .before .pre in
-    (b, (omega arith, (read-back (c .before .carry3 .ensures) (carried-fits t b 3 (omega arith)), read-back (c .share4 .ensures) (adjusted-fits t b 3 (omega arith)))))
+    (b, (omega arith, (read-back (c .before .carry3 .ensures) (carried-fits t b 3 (omega arith)), read-back (c .adjusted-in4 .ensures) (adjusted-fits t b 3 (omega arith)))))
 
-share-requires-5 : tie.Need-share-requires-5
+share-requires-5 : tie.Need-adjusted-in-requires-5
 share-requires-5 c κs =
     let t = c .before .before .before .before .before .before .before .before .before .before .before .before .before .args .t1 in
     let b = c .before .before .before .before .before .before .before .before .before .before .before .before .before .pre in
@@ -90,11 +90,11 @@ returns c =
     let t = c .before .before .before .before .before .before .before .before .before .before .before .before .before .before .args .t1 in
     let b = c .before .before .before .before .before .before .before .before .before .before .before .before .before .before .pre in
     rw (
-      read-back (c .before .before .before .before .before .before .before .before .share .ensures) (adjusted-fits t b 0 (omega arith)),
-      read-back (c .before .before .before .before .before .before .share2 .ensures) (adjusted-fits t b 1 (omega arith)),
-      read-back (c .before .before .before .before .share3 .ensures) (adjusted-fits t b 2 (omega arith)),
-      read-back (c .before .before .share4 .ensures) (adjusted-fits t b 3 (omega arith)),
-      read-back (c .share5 .ensures) (adjusted-fits t b 4 (omega arith)),
+      read-back (c .before .before .before .before .before .before .before .before .adjusted-in .ensures) (adjusted-fits t b 0 (omega arith)),
+      read-back (c .before .before .before .before .before .before .adjusted-in2 .ensures) (adjusted-fits t b 1 (omega arith)),
+      read-back (c .before .before .before .before .adjusted-in3 .ensures) (adjusted-fits t b 2 (omega arith)),
+      read-back (c .before .before .adjusted-in4 .ensures) (adjusted-fits t b 3 (omega arith)),
+      read-back (c .adjusted-in5 .ensures) (adjusted-fits t b 4 (omega arith)),
     )
 
 pub adjusted-spec : {M : Type 1} → statement M

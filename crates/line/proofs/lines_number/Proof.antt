@@ -8,7 +8,7 @@ use Rattle.rules.specs.Refusals.{breakFault, bidFault}
 use Rattle.laws.specs.Folds.{fold-begins, fold-goes, fold-stops, fold-ends, all-passed}
 use Rattle.line.specs.Parts.{lineFrom}
 use Rattle.line_bids.proofs.breaks.Breaks.{count-few}
-use Rattle.line.proofs.Laws.{bid-count, bid-break, bid-slots, line-head, line-bid, line-tail, lent-is, lent-length}
+use Rattle.line.proofs.Laws.{bid-count, bid-break, bid-slots, line-head, line-bid, line-limits, lent-is, lent-length}
 use Rattle.line.proofs.lines_number.Statement.{statement}
 use Rattle.line.proofs.lines_number.Tie as tie
 
@@ -57,11 +57,11 @@ slots-number-requires c κs = ((lent-length _ _ _ _ (omega arith) (c .before .be
 loop-again : tie.Need-loop-again Inv-loop2 μ-loop2 Inv-loop μ-loop Inv-lines μ-lines
 loop-again c = fold-goes _ _ _ _ (c .before .before .before .before .before .before .before .before .loop .inv .1) (c .before .before .before .before .before .before .before .loop-test .taken) (bid-slots _ _ _ (c .before .before .before .before .before .before .count-of .ensures) _ (c .before .before .before .before .before .count-number .ensures) (c .before .before .before .before .if3 .left) (fold-ends _ _ _ (c .before .before .before .loop2 .inv .1) (c .before .before .before .loop2 .inv .0) (c .before .before .loop2-test .left)) _ (c .before .slots-number .ensures)) (c .if5 .left)
 
-tail-number-requires : tie.Need-tail-number-requires Inv-loop2 μ-loop2 Inv-loop μ-loop Inv-lines μ-lines
-tail-number-requires c κs = ((lent-length _ _ _ _ (omega arith) (c .before .before .before .before .before .before .before .before .pre .1)), (all-passed _ _ _ (c .before .loop .inv .1) (c .before .loop .inv .0) (c .loop-test .left)))
+limits-number-requires : tie.Need-limits-number-requires Inv-loop2 μ-loop2 Inv-loop μ-loop Inv-lines μ-lines
+limits-number-requires c κs = ((lent-length _ _ _ _ (omega arith) (c .before .before .before .before .before .before .before .before .pre .1)), (all-passed _ _ _ (c .before .loop .inv .1) (c .before .loop .inv .0) (c .loop-test .left)))
 
 lines-again : tie.Need-lines-again Inv-loop2 μ-loop2 Inv-loop μ-loop Inv-lines μ-lines
-lines-again c = fold-goes _ _ _ _ (c .before .before .before .before .before .before .before .before .lines .inv .1) (omega arith) (lent-is _ _ _ _ (line-tail _ _ (c .before .before .before .before .before .head-number .ensures) (c .before .before .before .before .if2 .left) _ (all-passed _ _ _ (c .before .before .before .loop .inv .1) (c .before .before .before .loop .inv .0) (c .before .before .loop-test .left)) (c .before .tail-number .ensures))) (c .if6 .left)
+lines-again c = fold-goes _ _ _ _ (c .before .before .before .before .before .before .before .before .lines .inv .1) (omega arith) (lent-is _ _ _ _ (line-limits _ _ (c .before .before .before .before .before .head-number .ensures) (c .before .before .before .before .if2 .left) _ (all-passed _ _ _ (c .before .before .before .loop .inv .1) (c .before .before .before .loop .inv .0) (c .before .before .loop-test .left)) (c .before .limits-number .ensures))) (c .if6 .left)
 
 returns : tie.Need-returns Inv-loop2 μ-loop2 Inv-loop μ-loop Inv-lines μ-lines
 returns c = fold-ends _ _ _ (c .before .lines .inv .1) (c .before .lines .inv .0) (c .if1 .taken)
@@ -79,7 +79,7 @@ returns-5 : tie.Need-returns-5 Inv-loop2 μ-loop2 Inv-loop μ-loop Inv-lines μ-
 returns-5 c = fold-stops _ _ _ _ (c .before .before .before .before .before .before .before .before .before .before .before .before .before .lines .inv .1) (omega arith) (lent-is _ _ _ _ (line-bid _ _ (c .before .before .before .before .before .before .before .before .before .before .head-number .ensures) (c .before .before .before .before .before .before .before .before .before .if2 .left) _ _ (c .before .before .before .before .before .before .before .before .loop .inv .1) (c .before .before .before .before .before .before .before .loop-test .taken) (bid-slots _ _ _ (c .before .before .before .before .before .before .count-of .ensures) _ (c .before .before .before .before .before .count-number .ensures) (c .before .before .before .before .if3 .left) (fold-ends _ _ _ (c .before .before .before .loop2 .inv .1) (c .before .before .before .loop2 .inv .0) (c .before .before .loop2-test .left)) _ (c .before .slots-number .ensures)) (c .if5 .taken))) (c .if5 .taken)
 
 returns-6 : tie.Need-returns-6 Inv-loop2 μ-loop2 Inv-loop μ-loop Inv-lines μ-lines
-returns-6 c = fold-stops _ _ _ _ (c .before .before .before .before .before .before .before .before .lines .inv .1) (omega arith) (lent-is _ _ _ _ (line-tail _ _ (c .before .before .before .before .before .head-number .ensures) (c .before .before .before .before .if2 .left) _ (all-passed _ _ _ (c .before .before .before .loop .inv .1) (c .before .before .before .loop .inv .0) (c .before .before .loop-test .left)) (c .before .tail-number .ensures))) (c .if6 .taken)
+returns-6 c = fold-stops _ _ _ _ (c .before .before .before .before .before .before .before .before .lines .inv .1) (omega arith) (lent-is _ _ _ _ (line-limits _ _ (c .before .before .before .before .before .head-number .ensures) (c .before .before .before .before .if2 .left) _ (all-passed _ _ _ (c .before .before .before .loop .inv .1) (c .before .before .before .loop .inv .0) (c .before .before .loop-test .left)) (c .before .limits-number .ensures))) (c .if6 .taken)
 
 pub lines-number-spec : {M : Type 1} → statement M
 lines-number-spec =
@@ -111,7 +111,7 @@ lines-number-spec =
     (λ c. search needs)
     (λ c. search needs)
     loop-again
-    tail-number-requires
+    limits-number-requires
     (λ c. search needs)
     (λ c. search needs)
     lines-again

@@ -1,4 +1,4 @@
--- Rows 7 and 8, from what the code has read.
+-- Refusals 7 and 8, from what the code has read.
 use Prim.Native.Nat.{ℕ, _-_, _≤_, _<_}
 use mathlib.Core.Path.{_≡_, refl, sym, _∙_, subst}
 use mathlib.Core.List.{List}
@@ -15,7 +15,7 @@ use Rattle.line_bids.specs.Kinds.{quantityRead}
 use Rattle.line_bids.proofs.units.Reading.{quantity-within-is, quantity-above-is}
 use Rattle.line_bids.specs.Counts.{countFault}
 
--- row 8 at one step, with the break before it
+-- refusal 8 at one step, with the break before it
 module _ (w : List ℕ) (s j e : ℕ) (earlier : e ≡ before (bidBreak w s) j) where
   pub break-above : QuantityRead.Above ≡ quantityRead (bidBreak w s j) → 8 ≡ breakFault w s j
   unfolding breakFault
@@ -40,7 +40,7 @@ module _ (w : List ℕ) (s j e : ℕ) (earlier : e ≡ before (bidBreak w s) j) 
         let l : before (bidBreak w s) j < bidBreak w s j = subst (λ (z : ℕ). z < bidBreak w s j) earlier (subst (λ (z : ℕ). e < z) (g .1) h) in
         passes 8 _ _ _ (lt-leb _ _ l) (none-at 8 _ (le-ltb _ _ (g .0)))
 
--- row 7
+-- refusal 7
 pub count-empty : (n : ℕ) → n ≡ 0 → 7 ≡ countFault n
 unfolding countFault
 count-empty n h = stops 6 _ _ (eq-eqb n 0 h)

@@ -1,9 +1,9 @@
--- Rows 9 and 10, from what the code has read.
+-- Refusals 9 and 10, from what the code has read.
 use Prim.Native.Nat.{ℕ, zero, suc, _-_}
 use native.Mathlib.Omega.{arith}
 use mathlib.Core.Path.{_≡_, refl, sym, _∙_, ap}
 use mathlib.Core.List.{List}
-use mathlib.Core.Bool.{Bool, true, false}
+use mathlib.Core.Bool.{true, false}
 use borrow.Author.Tests.{lt-ltb, le-ltb}
 use Rattle.rules.specs.Fold.{first}
 use Rattle.rules.specs.Layout.{side, bidCount, bidPrice}
@@ -13,21 +13,13 @@ use Rattle.line_bids.specs.declared.units.Price.{Price}
 use Rattle.line_bids.specs.declared.units.PriceRead.{PriceRead}
 use Rattle.line_bids.specs.Kinds.{priceRead}
 use Rattle.line_bids.proofs.units.Reading.{price-within-is, price-above-is}
-use Rattle.line_bids.specs.Slots.{slotsFault, bit}
+use Rattle.line_bids.specs.Slots.{slotsFault}
 
--- row 9 at one step
+-- refusal 9 at one step
 pub order-first : (w : List ℕ) (s j : ℕ) → j ≡ 0 → 0 ≡ orderFault w s j
 unfolding orderFault
 order-first w s zero h = refl
 order-first w s (suc j) h = absurd (omega arith)
-
-bit-one : (t : Bool) → bit t ≡ 1 → t ≡ true
-bit-one true e = refl
-bit-one false e = absurd (omega arith)
-
-bit-other : (t : Bool) → (bit t ≡ 1 → ⊥) → t ≡ false
-bit-other true e = absurd (e refl)
-bit-other false e = refl
 
 -- the test's value at the line's side and prices
 order-there : (w : List ℕ) (s j sd p q : ℕ) → sd ≡ side w → p ≡ bidPrice w s (suc j - 1) → q ≡ bidPrice w s (suc j)
@@ -36,19 +28,17 @@ order-there w s j sd p q a b c =
     let e : p ≡ bidPrice w s j = b ∙ ap (bidPrice w s) (omega arith) in
     rw (a, e, c)
 
-pub order-bad : (w : List ℕ) (s j sd p q x : ℕ) → (j ≡ 0 → ⊥) → sd ≡ side w → p ≡ bidPrice w s (j - 1) → q ≡ bidPrice w s j
-    → x ≡ bit (outOfOrder sd p q) → x ≡ 1 → 9 ≡ orderFault w s j
+pub order-bad : (w : List ℕ) (s j sd p q : ℕ) → (j ≡ 0 → ⊥) → sd ≡ side w → p ≡ bidPrice w s (j - 1) → q ≡ bidPrice w s j
+    → true ≡ outOfOrder sd p q → 9 ≡ orderFault w s j
 unfolding orderFault
-order-bad w s zero sd p q x n a b c e h = absurd (n refl)
-order-bad w s (suc j) sd p q x n a b c e h =
-    ends-at 9 _ (sym (order-there w s j sd p q a b c) ∙ bit-one (outOfOrder sd p q) (sym e ∙ h))
+order-bad w s zero sd p q n a b c e = absurd (n refl)
+order-bad w s (suc j) sd p q n a b c e = ends-at 9 _ (sym (e ∙ order-there w s j sd p q a b c))
 
-pub order-good : (w : List ℕ) (s j sd p q x : ℕ) → (j ≡ 0 → ⊥) → sd ≡ side w → p ≡ bidPrice w s (j - 1) → q ≡ bidPrice w s j
-    → x ≡ bit (outOfOrder sd p q) → (x ≡ 1 → ⊥) → 0 ≡ orderFault w s j
+pub order-good : (w : List ℕ) (s j sd p q : ℕ) → (j ≡ 0 → ⊥) → sd ≡ side w → p ≡ bidPrice w s (j - 1) → q ≡ bidPrice w s j
+    → false ≡ outOfOrder sd p q → 0 ≡ orderFault w s j
 unfolding orderFault
-order-good w s zero sd p q x n a b c e h = absurd (n refl)
-order-good w s (suc j) sd p q x n a b c e h =
-    none-at 9 _ (sym (order-there w s j sd p q a b c) ∙ bit-other (outOfOrder sd p q) (λ g. h (e ∙ g)))
+order-good w s zero sd p q n a b c e = absurd (n refl)
+order-good w s (suc j) sd p q n a b c e = none-at 9 _ (sym (e ∙ order-there w s j sd p q a b c))
 
 pub price-fault-above : (w : List ℕ) (s j : ℕ) → PriceRead.Above ≡ priceRead (bidPrice w s j) → 9 ≡ priceFault w s j
 unfolding priceFault

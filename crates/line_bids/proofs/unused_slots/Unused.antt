@@ -1,4 +1,4 @@
--- Row 10, from what the code has read.
+-- Refusal 10, from what the code has read.
 use Prim.Native.Nat.{ℕ, _+_, _-_}
 use mathlib.Core.Path.{_≡_, sym, _∙_, ap}
 use mathlib.Core.List.{List}
@@ -8,7 +8,7 @@ use Rattle.rules.specs.Layout.{bidCount, bidBreak, bidPrice}
 use Rattle.rules.specs.Refusals.{unusedFault}
 use Rattle.laws.specs.Folds.{not-eq, not-ne, stops, passes, ends-at, none-at}
 
--- row 10 at an unused slot, with the count and the words read there
+-- refusal 10 at an unused slot, with the count and the words read there
 module _ (w : List ℕ) (s i n x : ℕ) (count : n ≡ bidCount w s) (brk : x ≡ bidBreak w s (n + i)) where
   break-there : x ≡ bidBreak w s (bidCount w s + i)
   break-there = brk ∙ ap (λ (k : ℕ). bidBreak w s (k + i)) count

@@ -18,7 +18,7 @@ use Rattle.rules.specs.Book.{lineEntry, bookOf}
 use Rattle.laws.specs.Accepted.{AcceptedDay}
 use Rattle.step_payments.specs.declared.amounts.Money.{Money}
 use Rattle.step_pool.specs.declared.pool_amounts.SidePool.{SidePool}
-use Rattle.step_payments.specs.Amounts.{Signable, paymentOf}
+use Rattle.step_payments.specs.Amounts.{Signable, signedPayment}
 use Rattle.step_pool.specs.Amounts.{moneySum, MoneyAddable}
 use Rattle.day_pools.specs.Sums.{moneyTo, money-more}
 use Rattle.day_pools.specs.Lines.{stepMoney, line-signable}
@@ -42,11 +42,11 @@ module _ (d : List ℕ) (a : AcceptedDay d) (k : ℕ) (l : k < lineCount d) wher
   money-signable y e = subst Signable (sym e) (line-signable d a k l)
 
   pub line-put : (v : List ℕ) → v ≡ lineAt d k → (q r sd n : ℕ) (y : Money) (pay : List ℤ) (b c : List ℕ) (at e : ℕ)
-      → q ≡ participant v → r ≡ point v → sd ≡ side v → n ≡ stepCount (lineAt d k) → y ≡ moneyTo (stepCount (lineAt d k)) (stepMoney d k) → pay ≡ five (paymentOf y)
+      → q ≡ participant v → r ≡ point v → sd ≡ side v → n ≡ stepCount (lineAt d k) → y ≡ moneyTo (stepCount (lineAt d k)) (stepMoney d k) → pay ≡ five (signedPayment y)
       → Written 56 b at (entryOf q r sd n (atZ pay)) e c → (c ≡ sets b at (lineEntry d k)) × (y ≡ lineMoney d k)
   unfolding lineMoney
   line-put v ve q r sd n y pay b c at e qe re se ne ye pe w =
-      let paid = pe ∙ ap (λ (z : Money). five (paymentOf z)) ye ∙ payments-are d k in
+      let paid = pe ∙ ap (λ (z : Money). five (signedPayment z)) ye ∙ payments-are d k in
       (w .bytes ∙ ap (sets b at) (entry-is d k (qe ∙ ap participant ve) (re ∙ ap point ve) (se ∙ ap side ve) ne paid), ye)
 
   pub total-addable : (q y : Money) → q ≡ moneyTo k (lineMoney d) → y ≡ lineMoney d k → MoneyAddable q y
@@ -74,9 +74,9 @@ module _ (d : List ℕ) (a : AcceptedDay d) (q : Money) (qe : q ≡ moneyTo (lin
   pub all-signable : Signable q
   all-signable = subst Signable (sym qe) (total-signable d a)
 
-  module _ (t : List ℤ) (te : t ≡ five (paymentOf q)) where
+  module _ (t : List ℤ) (te : t ≡ five (signedPayment q)) where
     totals-there : t ≡ five (total d)
-    totals-there = te ∙ ap (λ (z : Money). five (paymentOf z)) qe ∙ total-is d
+    totals-there = te ∙ ap (λ (z : Money). five (signedPayment z)) qe ∙ total-is d
 
     pub all-bounded : Bounded t
     unfolding totals

@@ -16,19 +16,12 @@ use Rattle.laws.specs.Folds.{same-five, at-five}
 use Rattle.laws.specs.Accepted.{accepted-line}
 use Rattle.line_quantities.specs.Sums.{tableTotal, lesserSum, lesserAt}
 use Rattle.line_quantities.proofs.sums.Totals.{table-total}
-use Rattle.cutter.specs.Arrays.{bitAt}
 use Rattle.cutter.specs.Ends.{most-limit}
 use Rattle.step_inputs.specs.declared.inputs.Market.{Market}
 use Rattle.step_inputs.specs.declared.inputs.LineTotals.{LineTotals}
-use Rattle.step_inputs.specs.Inputs.{wordIn, marketOf, totalsOf, stepFrom}
+use Rattle.step_inputs.specs.Inputs.{wordIn, marketOf, totalsOf, stepWith}
 use Rattle.step_inputs.specs.Terms.{cappedIn, paidIn}
 use Rattle.step_inputs.specs.Steps.{actual-most}
-
--- a bit by a shift
-pub bit-shift : (x k : ℕ) → x / 2 ^ k % 2 ≡ bitAt x k
-unfolding bitAt
-bit-shift x zero = ap (λ (y : ℕ). y % 2) (div-one x)
-bit-shift x (suc k) = ap (λ (y : ℕ). y % 2) (ap (λ (p : ℕ). x / p) (pow-succ' 2 k) ∙ sym (div-div-eq-div-mul x 2 (2 ^ k))) ∙ bit-shift (x / 2) k
 
 pub market-is : (d p m : List ℕ) (c k : ℕ) → p ≡ five (wordIn d 16) → m ≡ five (wordIn d 36) → c ≡ layout.priceCap d → k ≡ layout.clawback d
     → _≡_ {A = Market} (record { price = p; mark = m; cap = c; clawback = k }) (marketOf d)
@@ -84,6 +77,6 @@ module _ (w : List ℕ) (z : lineFault w ≡ 0) where
 
 pub step-from-is : (m : Market) (t : LineTotals) (l u : ℕ) (p f q r : List ℕ)
     → q ≡ five (cappedIn (m .mark) (m .cap) p) → r ≡ five (paidIn (t .accreditation) (t .hedge) u)
-    → _≡_ {A = Step} (record { side = t .side; lower = l; upper = u; price = q; flag = f; market = m .price; paid = r; pricing = t .pricing; operating = t .operating; actual = t .actual }) (stepFrom m t l u p f)
-unfolding stepFrom
+    → _≡_ {A = Step} (record { side = t .side; lower = l; upper = u; price = q; flag = f; market = m .price; paid = r; pricing = t .pricing; operating = t .operating; actual = t .actual }) (stepWith m t l u p f)
+unfolding stepWith
 step-from-is m t l u p f q r a b = rw (a, b)

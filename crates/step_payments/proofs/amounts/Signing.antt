@@ -7,11 +7,11 @@ use Rattle.rules.specs.Fold.{five}
 use Rattle.rules.specs.Layout.{quantityMost, priceMost}
 use Rattle.laws.specs.Ints.{parts}
 use Rattle.numbers.specs.Fives.{five-is, five-most}
-use Rattle.step_payments.specs.Kinds.{Within}
-use Rattle.step_payments.specs.Amounts.{plusOf, minusOf, moneyOf, paymentOf, Signable}
+use Rattle.step_payments.specs.Kinds.{SizeWithin}
+use Rattle.step_payments.specs.Amounts.{plusOf, minusOf, moneyOf, signedPayment, Signable}
 
 -- money of payments within the limits is held by signed numbers, and is those payments
-pub signable : (f : ℕ → ℤ) → ((s : ℕ) → Within (quantityMost * priceMost) (f s)) → Signable (moneyOf f)
+pub signable : (f : ℕ → ℤ) → ((s : ℕ) → SizeWithin (quantityMost * priceMost) (f s)) → Signable (moneyOf f)
 unfolding moneyOf plusOf minusOf
 signable f w =
     record {
@@ -19,6 +19,6 @@ signable f w =
       minus = λ s. omega (arith, five-most (minusOf f) (quantityMost * priceMost) (λ t h. w t .taken) s);
     }
 
-pub money-back : (f : ℕ → ℤ) → five (paymentOf (moneyOf f)) ≡ five f
-unfolding paymentOf moneyOf plusOf minusOf
+pub money-back : (f : ℕ → ℤ) → five (signedPayment (moneyOf f)) ≡ five f
+unfolding signedPayment moneyOf plusOf minusOf
 money-back f = five-is f (sym (parts (f 0))) (sym (parts (f 1))) (sym (parts (f 2))) (sym (parts (f 3))) (sym (parts (f 4)))

@@ -6,7 +6,7 @@ use lib.ListN.{length}
 use Rattle.rules.specs.Report.{decimal, lineFeed}
 use Rattle.rules.specs.declared.View.{View}
 use Rattle.text.specs.Rows.{words}
-use Rattle.text_steps.specs.ViewText.{quantitiesIn, paymentsIn, scheduleRow}
+use Rattle.text_steps.specs.ViewText.{quantitiesIn, paymentsText, scheduleRow}
 
 -- the row of schedule s from its seven quantities
 pub seven : (v : View) (s : ℕ) {q : List ℕ} → q ≡ quantitiesIn v s → length q ≡ 7
@@ -14,6 +14,6 @@ unfolding quantitiesIn
 seven v s e = ap length e
 
 pub row-is : (v : View) (s : ℕ) {q : List ℕ} → q ≡ quantitiesIn v s
-    → decimal (s + 1) ++ words q ++ paymentsIn v s ++ lineFeed ≡ scheduleRow v s
+    → decimal (s + 1) ++ words q ++ paymentsText v s ++ lineFeed ≡ scheduleRow v s
 unfolding scheduleRow
 row-is v s e = rw e

@@ -6,7 +6,7 @@ use Rattle.cutter_cursors.proofs.cursors.step_after.Statement.{statemen
 use Rattle.cutter_cursors.proofs.cursors.step_after.Tie as tie
 
 add-result : tie.Need-add-result
-add-result c = omega (arith, bit-one _ (c .before .same .ensures), c .before .before .before .pre .0, c .before .before .before .pre .1)
+add-result c = omega (arith, bit-one (c .before .before .stop-of .result) (c .before .before .before .args .u) (c .before .same .ensures), c .before .before .before .pre .0, c .before .before .before .pre .1)
 
 returns : tie.Need-returns
 returns c = after-is _ _ _ (c .before .before .stop-of .ensures) (c .before .same .ensures) (c .before .before .before .pre .0) (c .before .before .before .pre .2)

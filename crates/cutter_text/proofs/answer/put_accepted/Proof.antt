@@ -8,7 +8,7 @@ use Rattle.cutter_text.proofs.answer.put_accepted.Statement.{statement}
 use Rattle.cutter_text.proofs.answer.put_accepted.Tie as tie
 
 returns : tie.Need-returns
-returns c = written-wider (25 + 126 * c .before .before .before .before .before .before .before .before .before .before .before .before .before .before .before .before .before .before .before .before .before .before .args .count + 111 + 113) textMost (written-as (steps-is _ (c .before .before .before .before .before .before .before .before .before .before .before .before .before .before .before .before .before .before .before .before .before .before .pre .0) refl (c .before .before .before .wide .ensures)) (then (then (then (c .before .before .before .before .before .before .before .before .before .before .before .before .before .before .before .before .before .put-count .ensures) (c .before .before .before .before .before .before .before .before .before .before .before .before .before .put-steps .ensures)) (c .before .before .before .before .before .before .before .before .put-row .ensures)) (c .before .before .put-row2 .ensures))) (search needs)
+returns c = written-wider (25 + 126 * c .before .before .before .before .before .before .before .before .before .before .before .before .before .before .before .before .before .before .before .before .before .before .args .count + 111 + 113) textMost (written-as (steps-is _ (c .before .before .before .before .before .before .before .before .before .before .before .before .before .before .before .before .before .before .before .before .before .before .pre .0) refl (c .before .before .before .widened .ensures)) (then (then (then (c .before .before .before .before .before .before .before .before .before .before .before .before .before .before .before .before .before .put-count .ensures) (c .before .before .before .before .before .before .before .before .before .before .before .before .before .put-steps .ensures)) (c .before .before .before .before .before .before .before .before .put-row .ensures)) (c .before .before .put-row2 .ensures))) (search needs)
 
 pub put-accepted-spec : {M : Type 1} → statement M
 put-accepted-spec =

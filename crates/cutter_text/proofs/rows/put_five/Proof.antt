@@ -7,7 +7,7 @@ use Rattle.cutter_text.proofs.rows.put_five.Statement.{statement}
 use Rattle.cutter_text.proofs.rows.put_five.Tie as tie
 
 returns : tie.Need-returns
-returns c = written-as (row-is (c .before .before .before .before .before .before .before .before .before .before .before .before .before .before .before .before .before .before .before .before .before .before .before .before .before .args .t3) refl refl refl refl refl) (then (then (then (then (then (c .before .before .before .before .before .before .before .before .before .before .before .before .before .before .before .before .before .before .before .before .before .before .put-number .ensures) (c .before .before .before .before .before .before .before .before .before .before .before .before .before .before .before .before .before .before .put-number2 .ensures)) (c .before .before .before .before .before .before .before .before .before .before .before .before .before .before .put-number3 .ensures)) (c .before .before .before .before .before .before .before .before .before .before .put-number4 .ensures)) (c .before .before .before .before .before .before .put-number5 .ensures)) (c .before .before .put-byte .ensures))
+returns c = written-as (row-is (c .before .before .before .before .before .before .before .before .before .before .before .before .before .before .before .before .before .before .before .before .before .before .before .before .before .args .t3) refl refl refl refl refl) (then (then (then (then (then (c .before .before .before .before .before .before .before .before .before .before .before .before .before .before .before .before .before .before .before .before .before .before .put-spaced .ensures) (c .before .before .before .before .before .before .before .before .before .before .before .before .before .before .before .before .before .before .put-spaced2 .ensures)) (c .before .before .before .before .before .before .before .before .before .before .before .before .before .before .put-spaced3 .ensures)) (c .before .before .before .before .before .before .before .before .before .before .put-spaced4 .ensures)) (c .before .before .before .before .before .before .put-spaced5 .ensures)) (c .before .before .put-byte .ensures))
 
 pub put-five-spec : {M : Type 1} → statement M
 put-five-spec =

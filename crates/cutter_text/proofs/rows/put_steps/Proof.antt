@@ -4,14 +4,14 @@ use mathlib.Core.Path.{_≡_, refl}
 use lib.ListN.{length}
 use native.Mathlib.Omega.{arith}
 use borrow.Author.Needs.{needs}
-use Rattle.cutter_text.specs.CutRows.{stepText, line-of-step}
+use Rattle.cutter_text.specs.CutRows.{cutStepText, line-of-step}
 use Rattle.rules.specs.Fold.{joined, at}
 use Rattle.text.specs.Put.{Written, written-as, row-none, row-more}
 use Rattle.cutter_text.proofs.rows.put_steps.Statement.{statement}
 use Rattle.cutter_text.proofs.rows.put_steps.Tie as tie
 
 abbrev Inv-loop : tie.InvT-loop
-Inv-loop out₀ at count r p₀ k₀ out p k = (k ≤ count) × (length out ≡ length out₀) × (Written (126 * k) out₀ at (joined k (stepText r)) p out)
+Inv-loop out₀ at count r p₀ k₀ out p k = (k ≤ count) × (length out ≡ length out₀) × (Written (126 * k) out₀ at (joined k (cutStepText r)) p out)
 
 abbrev μ-loop : tie.MeasureT-loop
 μ-loop out₀ at count r p₀ k₀ out p k = count - k

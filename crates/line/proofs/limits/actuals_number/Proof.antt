@@ -6,7 +6,7 @@ use borrow.Author.Needs.{needs}
 use Rattle.rules.specs.Fold.{first}
 use Rattle.rules.specs.Refusals.{actualFault}
 use Rattle.laws.specs.Folds.{fold-begins, fold-goes, fold-stops, fold-ends}
-use Rattle.line.proofs.limits.Rows.{actual-above, actual-within}
+use Rattle.line.proofs.limits.Laws.{actual-above, actual-within}
 use Rattle.line.proofs.limits.actuals_number.Statement.{statement}
 use Rattle.line.proofs.limits.actuals_number.Tie as tie
 

@@ -1,6 +1,6 @@
 -- `line::limits::hedge_number` meets its contract.
 use borrow.Author.Needs.{needs}
-use Rattle.line.proofs.limits.Rows.{hedge-above, hedge-withdrawal, hedge-none, hedge-injection}
+use Rattle.line.proofs.limits.Laws.{hedge-above, hedge-withdrawal, hedge-none, hedge-injection}
 use Rattle.line.proofs.limits.hedge_number.Statement.{statement}
 use Rattle.line.proofs.limits.hedge_number.Tie as tie
 

@@ -1,5 +1,6 @@
 -- `line_bids::prices::order_number` meets its contract.
 use borrow.Author.Needs.{needs}
+use mathlib.Core.Path.{sym, _∙_}
 use Rattle.line_bids.proofs.prices.Prices.{order-first, order-bad, order-good}
 use Rattle.line_bids.proofs.prices.order_number.Statement.{statement}
 use Rattle.line_bids.proofs.prices.order_number.Tie as tie
@@ -8,10 +9,10 @@ returns : tie.Need-returns
 returns c = order-first _ _ _ (c .if1 .taken)
 
 returns-2 : tie.Need-returns-2
-returns-2 c = order-bad _ _ _ _ _ _ _ (c .before .before .before .before .before .if1 .left) (c .before .before .word-at3 .ensures) (c .before .before .before .before .word-at .ensures) (c .before .before .before .word-at2 .ensures) (c .before .out-of-order .ensures) (c .if2 .taken)
+returns-2 c = order-bad _ _ _ _ _ _ (c .before .before .before .before .before .if1 .left) (c .before .before .word-at3 .ensures) (c .before .before .before .before .word-at .ensures) (c .before .before .before .word-at2 .ensures) (sym (c .if2 .taken) ∙ c .before .out-of-order .ensures)
 
 returns-3 : tie.Need-returns-3
-returns-3 c = order-good _ _ _ _ _ _ _ (c .before .before .before .before .before .if1 .left) (c .before .before .word-at3 .ensures) (c .before .before .before .before .word-at .ensures) (c .before .before .before .word-at2 .ensures) (c .before .out-of-order .ensures) (c .if2 .left)
+returns-3 c = order-good _ _ _ _ _ _ (c .before .before .before .before .before .if1 .left) (c .before .before .word-at3 .ensures) (c .before .before .before .before .word-at .ensures) (c .before .before .before .word-at2 .ensures) (sym (c .if2 .left) ∙ c .before .out-of-order .ensures)
 
 pub order-number-spec : {M : Type 1} → statement M
 order-number-spec =

@@ -25,7 +25,7 @@ returns-4 c = rw (ne-eqb (c .before .before .before .before .args .claw) 0 (c .b
 share-requires : tie.Need-share-requires
 share-requires c κs =
     let h = c .before .before .before .before .before .pre .some (omega arith) in
-    omega (arith, c .wide .ensures, c .before .before .before .before .before .pre)
+    omega (arith, c .wide .ensures .0, c .before .before .before .before .before .pre)
 
 add-lesser64 : tie.Need-add-lesser64
 add-lesser64 c =
@@ -33,7 +33,7 @@ add-lesser64 c =
     omega (
       arith,
       c .share .ensures,
-      rw (c .before .wide .ensures) at (c .share .ensures),
+      rw (c .before .wide .ensures .0) at (c .share .ensures),
       share-most (c .before .before .before .before .before .before .args .total) (c .before .before .before .before .before .before .args .fall) (c .before .before .before .before .before .before .args .base) (h .part),
     )
 
@@ -45,7 +45,7 @@ returns-5 c =
       ne-eqb (c .before .before .before .before .before .before .before .args .flag) 1 (c .before .before .before .before .before .if2 .left),
       lt-ltb 0 (c .before .before .before .before .before .before .before .args .total) (omega arith),
       lt-ltb 0 (c .before .before .before .before .before .before .before .args .initial) (omega arith),
-      ← c .before .before .wide .ensures,
+      ← c .before .before .wide .ensures .0,
       ← c .before .share .ensures,
     )
     (c .lesser64 .ensures)

@@ -24,10 +24,10 @@ returns-3 : tie.Need-returns-3
 returns-3 c = c .money-add .ensures ∙ ap (moneySum (c .before .before .before .before .before .before .before .before .before .before .before .args .m)) (off-money (c .before .before .before .before .before .before .before .before .before .before .before .args .x) _ (c .before .before .before .before .changes-on .ensures) (c .before .before .before .before .before .before .before .before .before .before .before .args .claw) (c .before .before .before .before .before .before .before .before .before .before .before .args .p) (c .before .if3 .taken))
 
 money-add-requires-2 : tie.Need-money-add-requires-2
-money-add-requires-2 c κs = subst (MoneyAddable (c .before .before .before .before .before .before .before .before .before .before .before .before .args .m)) (sym (kept-money (c .before .before .before .before .before .before .before .before .before .before .before .before .args .x) _ (c .before .before .before .before .before .changes-on .ensures) (c .before .before .before .before .before .before .before .before .before .before .before .before .args .claw) (c .before .before .before .before .before .before .before .before .before .before .before .before .args .p) (kept-row (c .before .before .before .before .before .before .before .before .before .before .before .before .args .x) _ (of-minus (c .before .before .before .before .before .before .before .before .before .before .before .before .args .x) _ (c .before .before .before .before .before .changes-on .ensures)) (sym (c .if4 .taken) ∙ c .before .none .ensures)))) (c .before .before .before .before .before .before .before .before .before .before .before .before .pre .2)
+money-add-requires-2 c κs = subst (MoneyAddable (c .before .before .before .before .before .before .before .before .before .before .before .before .args .m)) (sym (kept-money (c .before .before .before .before .before .before .before .before .before .before .before .before .args .x) _ (c .before .before .before .before .before .changes-on .ensures) (c .before .before .before .before .before .before .before .before .before .before .before .before .args .claw) (c .before .before .before .before .before .before .before .before .before .before .before .before .args .p) (kept-row (c .before .before .before .before .before .before .before .before .before .before .before .before .args .x) _ (of-minus (c .before .before .before .before .before .before .before .before .before .before .before .before .args .x) _ (c .before .before .before .before .before .changes-on .ensures)) (sym (c .if4 .taken) ∙ c .before .all-zero .ensures)))) (c .before .before .before .before .before .before .before .before .before .before .before .before .pre .2)
 
 returns-4 : tie.Need-returns-4
-returns-4 c = c .money-add2 .ensures ∙ ap (moneySum (c .before .before .before .before .before .before .before .before .before .before .before .before .before .args .m)) (kept-money (c .before .before .before .before .before .before .before .before .before .before .before .before .before .args .x) _ (c .before .before .before .before .before .before .changes-on .ensures) (c .before .before .before .before .before .before .before .before .before .before .before .before .before .args .claw) (c .before .before .before .before .before .before .before .before .before .before .before .before .before .args .p) (kept-row (c .before .before .before .before .before .before .before .before .before .before .before .before .before .args .x) _ (of-minus (c .before .before .before .before .before .before .before .before .before .before .before .before .before .args .x) _ (c .before .before .before .before .before .before .changes-on .ensures)) (sym (c .before .if4 .taken) ∙ c .before .before .none .ensures)))
+returns-4 c = c .money-add2 .ensures ∙ ap (moneySum (c .before .before .before .before .before .before .before .before .before .before .before .before .before .args .m)) (kept-money (c .before .before .before .before .before .before .before .before .before .before .before .before .before .args .x) _ (c .before .before .before .before .before .before .changes-on .ensures) (c .before .before .before .before .before .before .before .before .before .before .before .before .before .args .claw) (c .before .before .before .before .before .before .before .before .before .before .before .before .before .args .p) (kept-row (c .before .before .before .before .before .before .before .before .before .before .before .before .before .args .x) _ (of-minus (c .before .before .before .before .before .before .before .before .before .before .before .before .before .args .x) _ (c .before .before .before .before .before .before .changes-on .ensures)) (sym (c .before .if4 .taken) ∙ c .before .before .all-zero .ensures)))
 
 final-taken-requires : tie.Need-final-taken-requires
 final-taken-requires c κs = (c .before .before .before .before .before .before .before .before .before .before .before .before .pre .0, c .before .before .before .before .before .before .before .before .before .before .before .before .pre .1 (c .before .before .if3 .left), c .before .before .before .before .before .before .before .constrained-on .ensures, c .before .before .before .before .before .before .rates .ensures, c .before .before .before .before .before .changes-on .ensures)

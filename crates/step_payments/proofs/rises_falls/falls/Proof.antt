@@ -12,10 +12,10 @@ unfolding fall earlier before
 returns c =
     five-is (fall (c .before .before .before .before .args .t1))
     (omega arith)
-    (c .before .before .before .less .ensures)
-    (c .before .before .less2 .ensures)
-    (c .before .less3 .ensures)
-    (c .less4 .ensures)
+    (c .before .before .before .saturating-sub .ensures)
+    (c .before .before .saturating-sub2 .ensures)
+    (c .before .saturating-sub3 .ensures)
+    (c .saturating-sub4 .ensures)
 
 pub falls-spec : {M : Type 1} → statement M
 falls-spec =

@@ -10,7 +10,7 @@ returns : tie.Need-returns
 returns c =
     let o = c .before .before .before .before .before .before .before .before .before .before .args .t1 in
     let a = c .before .before .before .before .before .before .before .before .before .before .args .a in
-    let last = c .before .before .before .before .before .before .before .before .before .less .ensures in
+    let last = c .before .before .before .before .before .before .before .before .before .saturating-sub .ensures in
     let l₃ = least-step o 3 0 (least-last o 4) (c .before .before .before .before .before .before .before .before .lesser .ensures) in
     let l₂ = least-step o 2 1 l₃ (c .before .before .before .before .before .before .before .lesser2 .ensures) in
     let l₁ = least-step o 1 2 l₂ (c .before .before .before .before .before .before .lesser3 .ensures) in

@@ -6,7 +6,7 @@ use Rattle.step_quantities.proofs.allocation.allocate.Tie as tie
 
 returns : tie.Need-returns
 unfolding allocated
-returns c = rw (c .less .ensures, c .before .lesser .ensures)
+returns c = rw (c .saturating-sub .ensures, c .before .lesser .ensures)
 
 pub allocate-spec : {M : Type 1} → statement M
 allocate-spec = tie.close (tie.spec (λ c κs. tt) (λ c κs. tt) returns)

@@ -22,11 +22,11 @@ abbrev μ-loop : tie.MeasureT-loop
 loop-holds : tie.Need-loop-holds Inv-loop μ-loop
 loop-holds c = (search needs, search needs, row-none _ _ 21 _)
 
-put-unsigned-requires : tie.Need-put-unsigned-requires Inv-loop μ-loop
-put-unsigned-requires c κs = search needs
+put-spaced-requires : tie.Need-put-spaced-requires Inv-loop μ-loop
+put-spaced-requires c κs = search needs
 
 loop-again : tie.Need-loop-again Inv-loop μ-loop
-loop-again c = (search needs, search needs, row-more (wordAfter (now (c .before .before .before .before .before .before .before .before .before .before .args .v))) 21 (c .before .before .before .before .before .before .before .loop .i) (c .before .before .before .before .before .before .before .loop .inv .2) (written-as (ap (λ (x : ℕ). space ++ decimal x) (c .before .before .before .wide .ensures) ∙ word-is (now (c .before .before .before .before .before .before .before .before .before .before .args .v)) (c .before .before .before .before .before .before .before .loop .i)) (c .before .before .put-unsigned .ensures)))
+loop-again c = (search needs, search needs, row-more (wordAfter (now (c .before .before .before .before .before .before .before .before .before .before .args .v))) 21 (c .before .before .before .before .before .before .before .loop .i) (c .before .before .before .before .before .before .before .loop .inv .2) (written-as (ap (λ (x : ℕ). space ++ decimal x) (c .before .before .before .wide .ensures .0) ∙ word-is (now (c .before .before .before .before .before .before .before .before .before .before .args .v)) (c .before .before .before .before .before .before .before .loop .i)) (c .before .before .put-spaced .ensures)))
 
 returns : tie.Need-returns Inv-loop μ-loop
 unfolding words
@@ -42,7 +42,7 @@ put-words-spec =
     (λ c. search needs)
     (λ c. search needs)
     (λ c κs. search needs)
-    put-unsigned-requires
+    put-spaced-requires
     (λ c. search needs)
     (λ c. search needs)
     loop-again

@@ -1,0 +1,30 @@
+// M, the greatest break of a line's five bids (document 01, "Steps and prices").
+use line_bids::breaks::count_of;
+use numbers::greater;
+ghost use mathlib.Core.Path.{_≡_};
+ghost use Prim.Native.Nat.{_<_};
+ghost use lib.ListN.{length};
+ghost use Rattle.rules.specs.Fold.{first};
+ghost use Rattle.rules.specs.Steps.{bidMost, greatestBreak};
+ghost use Rattle.rules.specs.Refusals.{bidFault};
+
+// The greatest break of an accepted bid is its last.
+fn bid_most(line: &[u8], s: usize) -> u32
+    requires { ⌜ (length (now line) ≡ 660) × (s < 5) × (bidFault (now line) s ≡ 0) ⌝ }
+    ensures { λ r. ⌜ r ≡ bidMost (now (line .entry)) s ⌝ }
+{
+    let count = count_of(line, s);
+    bytes_le::word_at(line, 4 * (5 + 23 * s + 1 + (count - 1)))
+}
+
+// M, where the bids are accepted.
+pub fn greatest_break(line: &[u8]) -> u32
+    requires { ⌜ (length (now line) ≡ 660) × (first (bidFault (now line)) 5 ≡ 0) ⌝ }
+    ensures { λ r. ⌜ r ≡ greatestBreak (now (line .entry)) ⌝ }
+{
+    let three = greater(
+        greater(bid_most(line, 0), bid_most(line, 1)),
+        bid_most(line, 2),
+    );
+    greater(greater(three, bid_most(line, 3)), bid_most(line, 4))
+}

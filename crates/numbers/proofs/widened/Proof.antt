@@ -1,0 +1,31 @@
+-- `numbers::widened` meets its contract.
+use borrow.Author.Needs.{needs}
+use Rattle.numbers.specs.Fives.{five-is}
+use Rattle.rules.specs.Fold.{at}
+use Rattle.numbers.proofs.widened.Statement.{statement}
+use Rattle.numbers.proofs.widened.Tie as tie
+
+returns : tie.Need-returns
+returns c =
+    five-is (at (c .before .before .before .before .before .args .t1))
+    (c .before .before .before .before .wide .ensures .0)
+    (c .before .before .before .wide2 .ensures .0)
+    (c .before .before .wide3 .ensures .0)
+    (c .before .wide4 .ensures .0)
+    (c .wide5 .ensures .0)
+
+pub widened-spec : {M : Type 1} → statement M
+widened-spec =
+    tie.close
+    (tie.spec
+    (λ c. search needs)
+    (λ c κs. tt)
+    (λ c. search needs)
+    (λ c κs. tt)
+    (λ c. search needs)
+    (λ c κs. tt)
+    (λ c. search needs)
+    (λ c κs. tt)
+    (λ c. search needs)
+    (λ c κs. tt)
+    returns)

@@ -1,0 +1,55 @@
+-- `step_pool::adding::pool_with` meets its contract: by whether the step adds anything, and whether it takes something back.
+use mathlib.Core.Path.{sym, _∙_, ap}
+use borrow.Author.Needs.{needs}
+use Rattle.step_pool.specs.Amounts.{poolSum}
+use Rattle.step_pool.proofs.pool_amounts.Kept.{kept-row}
+use Rattle.step_pool.proofs.pool_amounts.Idle.{idle-unpaid, idle-unconstrained, pool-idle}
+use Rattle.step_pool.proofs.pool_amounts.Settling.{of-minus}
+use Rattle.step_pool.proofs.adding.pool_with.Statement.{statement}
+use Rattle.step_pool.proofs.adding.pool_with.Tie as tie
+
+returns : tie.Need-returns
+returns c = pool-idle (c .before .before .args .x) (idle-unpaid (c .before .before .args .x) (sym (c .if1 .taken) ∙ c .before .unpaid .ensures)) _ (c .before .before .pre .2)
+
+returns-2 : tie.Need-returns-2
+returns-2 c = pool-idle (c .before .before .before .before .args .x) (idle-unconstrained (c .before .before .before .before .args .x) (sym (c .if2 .taken) ∙ c .before .unconstrained .ensures)) _ (c .before .before .before .before .pre .2)
+
+changes-on-requires : tie.Need-changes-on-requires
+changes-on-requires c κs = (c .before .constrained-on .ensures, c .rates .ensures)
+
+kept-pool-requires : tie.Need-kept-pool-requires
+kept-pool-requires c κs = (c .before .before .before .changes-on .ensures, kept-row (c .before .before .before .before .before .before .before .before .before .before .args .x) _ (of-minus (c .before .before .before .before .before .before .before .before .before .before .args .x) _ (c .before .before .before .changes-on .ensures)) (sym (c .if3 .taken) ∙ c .before .all-zero .ensures))
+
+pool-add-requires : tie.Need-pool-add-requires
+pool-add-requires c κs = rw (c .kept-pool .ensures) (c .before .before .before .before .before .before .before .before .before .before .before .pre .1)
+
+returns-3 : tie.Need-returns-3
+returns-3 c = c .pool-add .ensures ∙ ap (poolSum (c .before .before .before .before .before .before .before .before .before .before .before .before .args .p)) (c .before .kept-pool .ensures)
+
+full-pool-requires : tie.Need-full-pool-requires
+full-pool-requires c κs = (c .before .before .before .before .before .before .before .before .before .before .pre .0, c .before .before .before .before .before .constrained-on .ensures, c .before .before .before .changes-on .ensures)
+
+pool-add-requires-2 : tie.Need-pool-add-requires-2
+pool-add-requires-2 c κs = rw (c .full-pool .ensures) (c .before .before .before .before .before .before .before .before .before .before .before .pre .1)
+
+returns-4 : tie.Need-returns-4
+returns-4 c = c .pool-add2 .ensures ∙ ap (poolSum (c .before .before .before .before .before .before .before .before .before .before .before .before .args .p)) (c .before .full-pool .ensures)
+
+pub pool-with-spec : {M : Type 1} → statement M
+pool-with-spec =
+    tie.close
+    (tie.spec
+    (λ c κs. search needs)
+    returns
+    (λ c κs. search needs)
+    returns-2
+    (λ c κs. search needs)
+    (λ c κs. search needs)
+    changes-on-requires
+    (λ c κs. search needs)
+    kept-pool-requires
+    pool-add-requires
+    returns-3
+    full-pool-requires
+    pool-add-requires-2
+    returns-4)
