@@ -1,9 +1,8 @@
 -- A number's bytes put, and one amount or pair more of a row.
 use Prim.Native.Nat.{ℕ, _+_, _*_, _≤_}
 use native.Mathlib.Omega.{arith}
-use mathlib.Core.Path.{_≡_, refl, _∙_, ap, ap₂}
+use mathlib.Core.Path.{_≡_, ap, ap₂}
 use mathlib.Core.List.{List, _++_}
-use lib.ListN.{length}
 use lib.Seq.{sets}
 use lib.IntN.{ℤ}
 use mir.Syntax.{w64}

@@ -1,18 +1,18 @@
 -- The book's parts as bytes of plain values, and that they are document 01's.
-use Prim.Native.Nat.{ℕ, zero, suc, _+_, _*_, _≤_, _<_}
+use Prim.Native.Nat.{ℕ, _+_, _*_, _≤_}
 use native.Mathlib.Omega.{arith}
-use mathlib.Core.Path.{_≡_, refl, sym, _∙_, ap, ap₂}
-use mathlib.Core.List.{List, [], _∷_, _++_, append-assoc}
-use lib.ListN.{length, take, drop, length-append, length-take}
+use mathlib.Core.Path.{_≡_, sym, _∙_, ap}
+use mathlib.Core.List.{List, _++_, append-assoc}
+use lib.ListN.{length, take, drop, length-append}
 use lib.Seq.{sets, sets-eq, drop-at, length-take-le, length-sets}
-use lib.IntN.{ℤ, pos}
+use lib.IntN.{ℤ}
 use Rattle.rules.specs.Fold.{joined, five, atZ}
 use Rattle.rules.specs.Layout.{lineCount, lineAt, participant, point, side}
 use Rattle.rules.specs.Steps.{stepCount}
 use Rattle.rules.specs.Refusals.{bookLength}
 use Rattle.rules.specs.Totals.{linePayment, total, totals, adjusted, adjustedTotal}
 use Rattle.rules.specs.Book.{wordBytes, signedBytes, bookHeader, totalPair, paymentBytes, lineEntry, bookOf}
-use Rattle.laws.specs.Folds.{at-five, joined-length}
+use Rattle.laws.specs.Folds.{joined-length}
 use Rattle.book.specs.Framing.{header-length, pairs-length, entry-length}
 
 -- four words, as at the front of the book and of each of its lines
@@ -60,7 +60,10 @@ whole-book d b m e h me ee =
     let len : length m ≡ length b = ap length me ∙ length-sets b 96 lines in
     let one : sets m 0 front ≡ take 0 m ++ front ++ drop (0 + length front) m = sets-eq front m 0 (omega arith) in
     let at : 0 + length front ≡ 96 = omega arith in
-    let split : drop 96 m ≡ lines ++ drop (96 + length lines) b = ap (drop 96) (me′ ∙ append-assoc (take 96 b) lines (drop (96 + length lines) b)) ∙ drop-at (take 96 b) (lines ++ drop (96 + length lines) b) 96 (length-take-le 96 b (omega arith)) in
+    let rest = drop (96 + length lines) b in
+    let split : drop 96 m ≡ lines ++ rest =
+    ap (drop 96) (me′ ∙ append-assoc (take 96 b) lines rest)
+    ∙ drop-at (take 96 b) (lines ++ rest) 96 (length-take-le 96 b (omega arith)) in
     let end : 96 + length lines ≡ bookLength n = omega arith in
     ee ∙ one ∙ ap (λ (i : ℕ). front ++ drop i m) at ∙ ap (λ (l : List ℕ). front ++ l) split
     ∙ sym (append-assoc front lines (drop (96 + length lines) b)) ∙ ap (λ (i : ℕ). front ++ lines ++ drop i b) end

@@ -173,7 +173,9 @@ module _ (d : List ℕ) (h : dayFault d ≡ 0) where
         rw (adjusted-is s g) (le-ltZ (adjustedTotal d s) (pos 0) (omega arith))
 
 -- THE CERTIFICATE, of answers that meet the contracts of settling, the step view and the cutter
-pub certified : (d b book : List ℕ) (view : ℕ → ℕ → View) (cut : ℕ → Cut) → dayFault d ≡ 0 → bookLength (lineCount d) ≤ length b → book ≡ bookAfter d b → ((k j : ℕ) → view k j ≡ viewAnswer d k j) → ((k : ℕ) → cut k ≡ cutAnswer (lineAt d k)) → Certified d book view cut
+pub certified : (d b book : List ℕ) (view : ℕ → ℕ → View) (cut : ℕ → Cut) → dayFault d ≡ 0
+    → bookLength (lineCount d) ≤ length b → book ≡ bookAfter d b → ((k j : ℕ) → view k j ≡ viewAnswer d k j)
+    → ((k : ℕ) → cut k ≡ cutAnswer (lineAt d k)) → Certified d book view cut
 certified d b book view cut h l settled viewed cutted =
     let rest = drop (bookLength (lineCount d)) b in
     let vs : (k j : ℕ) → k < lineCount d → j < stepCount (lineAt d k) → view k j ≡ viewOf d k j = λ k j g i. viewed k j ∙ view-whole d h k j g i in

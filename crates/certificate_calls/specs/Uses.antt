@@ -22,7 +22,9 @@ use Rattle.certificate.specs.Proof.{certified}
 
 -- K10's day has none of settling's faults, by computation
 pub k10-accepted : dayFault k10Day ≡ 0
-unfolding refuse _orElse_ first before sumTo mostTo headerFault marketPriceFault markFault marketFault breakFault outOfOrder orderFault priceFault unusedFault bidFault totalFault actualFault lineFault lineFaultAt sameKey pairFault keyFault dayFault bidMost greatestBreak pricingIn pricingTotal operatingTotal le
+unfolding refuse _orElse_ first before sumTo mostTo headerFault marketPriceFault markFault marketFault breakFault
+    outOfOrder orderFault priceFault unusedFault bidFault totalFault actualFault lineFault lineFaultAt sameKey
+    pairFault keyFault dayFault bidMost greatestBreak pricingIn pricingTotal operatingTotal le
 k10-accepted = refl
 
 -- and so it is certified, with its book in any lent one of at least 152 bytes

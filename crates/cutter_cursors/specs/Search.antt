@@ -1,10 +1,8 @@
 -- Laws of "the first bid step whose break is at least the upper end", over any n breaks `br`.
-use Prim.Native.Nat.{ℕ, zero, suc, _+_, _-_, _≤_, _<_}
+use Prim.Native.Nat.{ℕ, zero, suc, _+_, _≤_, _<_}
 use native.Mathlib.Omega.{arith}
 use native.Mathlib.Decide.{decLt, decLe}
-use mathlib.Core.Path.{_≡_, refl, sym, _∙_, subst}
-use mathlib.Core.Bool.{cond}
-use lib.Dec.{leb}
+use mathlib.Core.Path.{_≡_, subst}
 use borrow.Author.Tests.{le-leb, lt-leb}
 use Rattle.rules.specs.Steps.{stepFrom}
 

@@ -1,9 +1,9 @@
 -- What the sweep holds after each end, as functions of the line and that end, and what each of its moves gives.
-use Prim.Native.Nat.{ℕ, zero, suc, _+_, _*_, _-_, _^_, _≤_, _<_, min}
+use Prim.Native.Nat.{ℕ, suc, _+_, _*_, _-_, _^_, _≤_, _<_, min}
 use mathlib.Core.Path.{_≡_}
 use mathlib.Core.Bool.{cond}
-use mathlib.Core.List.{List, [], _∷_}
-use lib.ListN.{length, getD, set}
+use mathlib.Core.List.{List}
+use lib.ListN.{length, set}
 use lib.Dec.{eqb, ltb}
 use Rattle.rules.specs.Layout.{quantityMost, bidCount, bidBreak, bidPrice}
 use Rattle.rules.specs.Steps.{bidStep}

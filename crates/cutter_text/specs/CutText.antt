@@ -1,5 +1,5 @@
 -- The text of the cutter's answer: `cut COUNT`, for each step `END P1 P2 P3 P4 P5`, `flags F1 .. F5`, `missing N1 .. N5`; or `refused` and the number.
-use Prim.Native.Nat.{ℕ, _+_, _≤_, _<_}
+use Prim.Native.Nat.{ℕ, _≤_, _<_}
 use mathlib.Core.Path.{_≡_}
 use mathlib.Core.List.{List, [], _∷_, _++_}
 use mathlib.Core.Bool.{cond}

@@ -1,5 +1,5 @@
 -- A day's refusals part by part, from what the code has read.
-use Prim.Native.Nat.{ℕ, _-_}
+use Prim.Native.Nat.{ℕ}
 use mathlib.Core.Path.{_≡_, refl, _∙_, ap}
 use mathlib.Core.List.{List}
 use Rattle.rules.specs.Fold.{first}

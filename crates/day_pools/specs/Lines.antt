@@ -4,21 +4,18 @@ use native.Mathlib.Omega.{arith}
 use native.Mathlib.Decide.{decLt, ℕ-discrete}
 use mathlib.Core.Path.{_≡_, refl, sym, _∙_, ap, subst}
 use mathlib.Core.List.{List}
-use mathlib.Core.Bool.{Bool, true, false, _||_}
-use lib.Dec.{eqb}
 use lib.IntN.{ℤ}
-use borrow.Author.Tests.{eq-eqb}
 use Rattle.rules.specs.Fold.{sumTo, five, at}
 use Rattle.rules.specs.Layout.{quantityMost, priceMost, lineCount, lineAt, side, clawback}
 use Rattle.rules.specs.Steps.{stepCount}
 use Rattle.rules.specs.Matching.{rise, fall}
-use Rattle.rules.specs.Payments.{Pool, initial, finalPayment, stepOf, poolOf, stepFinal}
+use Rattle.rules.specs.Payments.{finalPayment, stepOf, poolOf, stepFinal}
 use Rattle.rules.specs.Totals.{linePayment}
 use Rattle.rules.specs.declared.Step.{Step}
 use Rattle.laws.specs.Accepted.{AcceptedDay}
 use Rattle.laws.specs.Folds.{sum-suc, sum-same, at-five}
 use Rattle.laws.specs.Ints.{pl, mi, Split, split-own, split-is}
-use Rattle.numbers.specs.Fives.{five-same, past-five}
+use Rattle.numbers.specs.Fives.{past-five}
 use Rattle.step_pool.specs.declared.pool_amounts.SidePool.{SidePool}
 use Rattle.step_payments.specs.declared.amounts.Money.{Money}
 use Rattle.step_payments.specs.Kinds.{paid-most, taken-most}

@@ -1,5 +1,5 @@
 -- Sizes of the pools of an accepted day: no sum leaves its word, and a step is in its side's pool.
-use Prim.Native.Nat.{ℕ, zero, suc, _*_, _-_, _≤_, _<_}
+use Prim.Native.Nat.{ℕ, zero, suc, _*_, _≤_, _<_}
 use native.Mathlib.Nat.{le-trans, mul-le-mul-left, mul-le-mul-right}
 use native.Mathlib.Omega.{arith}
 use native.Mathlib.Decide.{decLt}
@@ -11,7 +11,7 @@ use Rattle.rules.specs.Fold.{sumTo, at, eqbZ}
 use Rattle.rules.specs.Layout.{quantityMost, priceMost, lineCount, lineAt, side}
 use Rattle.rules.specs.Steps.{stepCount}
 use Rattle.rules.specs.Matching.{earlier, rise, fall}
-use Rattle.rules.specs.Payments.{bit, revised, initial, isPaid, onStep, stepOf, ofSide}
+use Rattle.rules.specs.Payments.{bit, revised, initial, onStep, stepOf, ofSide}
 use Rattle.rules.specs.declared.Step.{Step}
 use Rattle.laws.specs.Accepted.{AcceptedDay}
 use Rattle.laws.specs.Folds.{sum-le, sum-most, sum-term, sum-suc, at-five}
@@ -25,7 +25,8 @@ use Rattle.step_pool.specs.Parts.{rise-le, fall-le}
 use Rattle.step_pool.specs.declared.pool_amounts.SidePool.{SidePool}
 use Rattle.step_inputs.specs.Paid.{scaled-most, sized, constrained-most, earlier-most, line}
 use Rattle.day_pools.specs.Sums.{rowTo, poolTo}
-use Rattle.day_pools.specs.Sides.{stepPoolAt, linePool, sidePart, sidePool, stepAt, lineSum, sideAt, sideSum, Row, revisedPaid, revisedTaken, plus-row, minus-row, rises-row, falls-row, differs-row, steps-place, part-place, lines-place, side-place}
+use Rattle.day_pools.specs.Sides.{stepPoolAt, linePool, sidePart, sidePool, stepAt, lineSum, sideAt, sideSum, Row, revisedPaid, revisedTaken}
+use Rattle.day_pools.specs.Sides.{plus-row, minus-row, rises-row, falls-row, differs-row, steps-place, part-place, lines-place, side-place}
 
 -- fewer terms add up to no more
 pub sum-fewer : (m n : ℕ) (f : ℕ → ℕ) → m ≤ n → sumTo m f ≤ sumTo n f

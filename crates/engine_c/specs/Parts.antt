@@ -1,12 +1,12 @@
 -- The part of a day that is line k, by where it begins and how long it is: both 0 where the part is empty.
-use Prim.Native.Nat.{ℕ, zero, suc, _+_, _*_}
+use Prim.Native.Nat.{ℕ, _+_, _*_}
 use mathlib.Core.Path.{_≡_, refl, sym, _∙_}
-use mathlib.Core.List.{List, []}
+use mathlib.Core.List.{List}
 use mathlib.Core.Bool.{cond}
 use lib.ListN.{take, drop}
 use lib.Dec.{eqb}
 use borrow.Author.Tests.{eq-eqb, ne-eqb}
-use Rattle.rules.specs.Layout.{linesAt, lineBytes, lineAt}
+use Rattle.rules.specs.Layout.{linesAt, lineBytes}
 use Rattle.rules.specs.Refusals.{linePartFault, linePart}
 
 unfoldable pub partAt : List ℕ → ℕ → ℕ

@@ -1,8 +1,8 @@
 -- AGINO and MSIQ worked out from the last schedule back, one schedule at a time.
 use Prim.Native.Nat.{ℕ, suc, _-_, min}
-use mathlib.Core.Path.{_≡_, _∙_, ap}
+use mathlib.Core.Path.{_≡_}
 use mathlib.Core.List.{List}
-use mathlib.Core.Bool.{Bool, true, false, cond}
+use mathlib.Core.Bool.{cond}
 use Rattle.rules.specs.Fold.{at}
 use Rattle.rules.specs.Quantities.{agino, leastFrom, lastAgino, beyond, msiqFrom}
 

@@ -1,5 +1,5 @@
 -- Refusal 7.
-use Prim.Native.Nat.{ℕ, _-_}
+use Prim.Native.Nat.{ℕ}
 use lib.Dec.{eqb, ltb}
 use Rattle.rules.specs.Fold.{refuse, _orElse_}
 use Rattle.rules.specs.Layout.{bidSlots}

@@ -1,7 +1,6 @@
 -- The sum of the words at five places of a line.
 use Prim.Native.Nat.{ℕ, _+_}
 use mathlib.Core.List.{List}
-use Rattle.rules.specs.Fold.{at}
 use Rattle.rules.specs.Layout.{word}
 
 -- the sum of the words at five places

@@ -1,16 +1,16 @@
 -- That products, shares and signed differences fit 64 bits, and that the code's t * d / b is the whole quotient.
 use Prim.Native.Nat.{ℕ, zero, suc, _+_, _*_, _-_, _/_, _%_, _≤_, _<_, _^_}
-use native.Mathlib.Nat.{add-mul, mul-right-comm, mul-le-mul, mul-le-mul-left, le-trans, lt-of-le-of-lt, div-mul-le-self, div-add-mod', mod-lt, mul-add-div-right, mul-div-cancel, div-le-of-le-mul, mul-comm, le-of-lt}
+use native.Mathlib.Nat.{add-mul, mul-right-comm, mul-le-mul, mul-le-mul-left, le-trans, div-mul-le-self, div-add-mod', mod-lt, mul-add-div-right}
 use native.Mathlib.Omega.{arith}
 use mathlib.Core.Path.{_≡_, refl, sym, _∙_, ap}
 use mathlib.Core.Bool.{Bool, true, false, cond}
-use lib.IntN.{ℤ, pos, negsuc, subℕ, _-ℤ_}
+use lib.IntN.{pos, negsuc, subℕ, _-ℤ_}
 use lib.Signed.{mag}
 use lib.Dec.{ltb}
-use borrow.Author.Tests.{ltb-true, ltb-false, le-ltb}
+use borrow.Author.Tests.{le-ltb}
 use mir.Syntax.{w64}
-use mir.Val.{SFits, toZ, ofZ}
-use mir.ValLaws.{toZ-pos, toZ-ofZ}
+use mir.Val.{SFits, toZ}
+use mir.ValLaws.{toZ-pos}
 
 -- the quotient's whole part
 pub whole-most : (t d b : ℕ) → d ≤ b → t / b * d ≤ t

@@ -136,5 +136,16 @@ cases =
     ∷ []
 
 pub figures : every cases ≡ true
-unfolding refuse _orElse_ first before sumTo sumZ mostTo someTo joined listTo headerFault marketPriceFault markFault marketFault breakFault outOfOrder orderFault priceFault unusedFault bidFault totalFault actualFault lineFault lineFaultAt sameKey pairFault keyFault dayFault settleFault bidMost greatestBreak insert rising bidBreaks hedgePoint ends stepCount upperEnd lowerEnd stepFrom bidStep price flag capped hedged accredited paid pricingIn pricingTotal operatingTotal actualIn effectiveActual allocated leastFrom lastAgino agino beyond msiqFrom msiq constrained earlier rise fall takes leaves openRises matchesOf matched tenMatches operatingOn pricingOn actualOn aginoOn msiqOn constrainedOn onStep excess milder rate revisedRate isPaid initial matchedAt givenBack initialOr revised modified pooledPayment isPooled finalPayment stepPrice stepFlag stepPaid stepOf stepRevised ofSide lineRevised poolTotal paidChange lineChange poolChange poolBase stepDiffers lineDiffers poolDiffers poolOf stepFinal linePayment total leastSum adjustedAfter carried adjusted totals adjustedTotal le bookHeader totalPair paymentBytes lineEntry bookOf bookAfter digits decimal signedDecimal sideText numberAfter fiveNumbers paymentOf lineText settledText refusedLine reportText
+unfolding refuse _orElse_ first before sumTo sumZ mostTo someTo joined listTo headerFault marketPriceFault markFault
+    marketFault breakFault outOfOrder orderFault priceFault unusedFault bidFault totalFault actualFault lineFault
+    lineFaultAt sameKey pairFault keyFault dayFault settleFault bidMost greatestBreak insert rising bidBreaks
+    hedgePoint ends stepCount upperEnd lowerEnd stepFrom bidStep price flag capped hedged accredited paid pricingIn
+    pricingTotal operatingTotal actualIn effectiveActual allocated leastFrom lastAgino agino beyond msiqFrom msiq
+    constrained earlier rise fall takes leaves openRises matchesOf matched tenMatches operatingOn pricingOn actualOn
+    aginoOn msiqOn constrainedOn onStep excess milder rate revisedRate isPaid initial matchedAt givenBack initialOr
+    revised modified pooledPayment isPooled finalPayment stepPrice stepFlag stepPaid stepOf stepRevised ofSide
+    lineRevised poolTotal paidChange lineChange poolChange poolBase stepDiffers lineDiffers poolDiffers poolOf
+    stepFinal linePayment total leastSum adjustedAfter carried adjusted totals adjustedTotal le bookHeader totalPair
+    paymentBytes lineEntry bookOf bookAfter digits decimal signedDecimal sideText numberAfter fiveNumbers paymentOf
+    lineText settledText refusedLine reportText
 figures = refl

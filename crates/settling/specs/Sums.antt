@@ -1,17 +1,17 @@
 -- What a day's lines are paid in all: their money added up is the total of each schedule, and it fits.
-use Prim.Native.Nat.{ℕ, zero, suc, _+_, _*_, _≤_, _<_, _^_}
+use Prim.Native.Nat.{ℕ, _*_, _≤_, _<_, _^_}
 use native.Mathlib.Omega.{arith}
 use native.Mathlib.Decide.{decLt}
-use mathlib.Core.Path.{_≡_, refl, sym, _∙_, ap, subst}
+use mathlib.Core.Path.{_≡_, sym, _∙_, ap}
 use mathlib.Core.List.{List}
 use lib.IntN.{ℤ}
-use Rattle.rules.specs.Fold.{sumTo, sumZ, five, at}
+use Rattle.rules.specs.Fold.{sumTo, five, at}
 use Rattle.rules.specs.Layout.{lineCount, lineAt}
 use Rattle.rules.specs.Steps.{stepCount}
 use Rattle.rules.specs.Totals.{linePayment, total, totals}
 use Rattle.laws.specs.Accepted.{AcceptedDay}
-use Rattle.laws.specs.Folds.{sum-suc, sum-same, sum-most, at-five}
-use Rattle.laws.specs.Ints.{pl, mi, Split, split-is}
+use Rattle.laws.specs.Folds.{sum-same, sum-most, at-five}
+use Rattle.laws.specs.Ints.{pl, mi, split-is}
 use Rattle.numbers.specs.Fives.{five-same, past-five}
 use Rattle.step_payments.specs.declared.amounts.Money.{Money}
 use Rattle.step_payments.specs.Amounts.{Signable, signedPayment}

@@ -1,7 +1,7 @@
 -- The market table and a line's totals as the code holds them, and a step put together from them.
 use Prim.Native.Nat.{ℕ, _+_, _*_}
 use mathlib.Core.List.{List}
-use Rattle.rules.specs.Fold.{five, at}
+use Rattle.rules.specs.Fold.{five}
 use Rattle.rules.specs.Layout as layout
 use Rattle.rules.specs.Quantities.{pricingTotal, operatingTotal, effectiveActual}
 use Rattle.rules.specs.declared.Step.{Step}

@@ -4,7 +4,6 @@ use mathlib.Core.List.{List}
 use mathlib.Core.Bool.{cond, not, _&&_}
 use lib.Dec.{eqb, leb}
 use Rattle.rules.specs.Fold.{at}
-use Rattle.rules.specs.Layout as layout
 use Rattle.rules.specs.Payments.{bit}
 
 -- a price with a cap mark and the cap

@@ -1,5 +1,5 @@
 -- What each kind of payment pays and what it takes back, as natural numbers.
-use Prim.Native.Nat.{ℕ, zero, suc, _+_, _*_, _-_, _/_, _≤_, _<_, min, max}
+use Prim.Native.Nat.{ℕ, zero, suc, _+_, _*_, _-_, _/_, _≤_, min}
 use native.Mathlib.Nat.{zero-mul}
 use native.Mathlib.Omega.{arith}
 use mathlib.Core.Path.{_≡_, refl, sym, _∙_, ap}
@@ -115,7 +115,10 @@ pooled-parts i r (pos t) d b e k h =
     )
 pooled-parts i r (negsuc t) d b e k h = absurd (false≢true e)
 
-final-by : (i m r t : ℤ) (d b : ℕ) → pl m ≡ pl i → pl r ≡ pl i → (first flagged a c n : Bool) → ltZ (pos 0) t ≡ a → ltZ i (pos 0) ≡ c → (pl (cond first i (cond flagged m (cond (a && c && n) (maxZ i (r -ℤ quotZ (t *ℤ pos d) (pos b))) r))) ≡ pl i) × (mi (cond first i (cond flagged m (cond (a && c && n) (maxZ i (r -ℤ quotZ (t *ℤ pos d) (pos b))) r))) ≡ cond first (mi i) (cond flagged (mi m) (cond (a && c && n) (min (mi i) (mi r + pl t * d / b)) (mi r))))
+final-by : (i m r t : ℤ) (d b : ℕ) → pl m ≡ pl i → pl r ≡ pl i → (first flagged a c n : Bool) → ltZ (pos 0) t ≡ a → ltZ i (pos 0) ≡ c
+    → (pl (cond first i (cond flagged m (cond (a && c && n) (maxZ i (r -ℤ quotZ (t *ℤ pos d) (pos b))) r))) ≡ pl i)
+    × (mi (cond first i (cond flagged m (cond (a && c && n) (maxZ i (r -ℤ quotZ (t *ℤ pos d) (pos b))) r)))
+    ≡ cond first (mi i) (cond flagged (mi m) (cond (a && c && n) (min (mi i) (mi r + pl t * d / b)) (mi r))))
 final-by i m r t d b p q true flagged a c n e k = (refl, refl)
 final-by i m r t d b p q false true a c n e k = (p, refl)
 final-by i m r t d b p q false false true true true e k = pooled-parts i r t d b e k q
@@ -156,7 +159,8 @@ shared-by : (n : Bool) (t i d b r : ℕ) → cond (ltb 0 t && ltb 0 i && n) (min
 shared-by true t i d b r = rw (and-true (ltb 0 t) (ltb 0 i))
 shared-by false t i d b r = rw (and-false (ltb 0 t) (ltb 0 i))
 
-pub final-minus : (x : Step) (claw s : ℕ) (p : Pool) → mi (finalPayment x claw s p) ≡ cond (eqb s 0) (mi (initial x s)) (takenBack claw (at (x .flag) s) (mi (initial x s)) (mi (revised x s)) (mi (modified x s)) (fall (onStep x) s) (sharedTotal p) (p .base))
+pub final-minus : (x : Step) (claw s : ℕ) (p : Pool)
+    → mi (finalPayment x claw s p) ≡ cond (eqb s 0) (mi (initial x s)) (takenBack claw (at (x .flag) s) (mi (initial x s)) (mi (revised x s)) (mi (modified x s)) (fall (onStep x) s) (sharedTotal p) (p .base))
 unfolding finalPayment isPooled pooledPayment takenBack sharedTotal
 final-minus x claw s p =
     final-by (initial x s) (modified x s) (revised x s) (p .total) (fall (onStep x) s) (p .base) (modified-plus x s) (revised-plus x s)

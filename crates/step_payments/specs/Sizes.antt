@@ -1,10 +1,8 @@
 -- The facts of a step that the code needs, and the bounds that follow: rates, rises, falls, and what matches give back.
-use Prim.Native.Nat.{ℕ, zero, suc, _+_, _*_, _-_, _≤_, _<_, min, max}
-use native.Mathlib.Nat.{mul-le-mul-left, mul-le-mul, le-trans, add-mul}
+use Prim.Native.Nat.{ℕ, zero, suc, _*_, _-_, _≤_, min, max}
+use native.Mathlib.Nat.{mul-le-mul-left, add-mul}
 use native.Mathlib.Omega.{arith}
-use mathlib.Core.Path.{_≡_, refl}
 use mathlib.Core.Bool.{Bool, true, false, cond}
-use mathlib.Core.List.{List}
 use Rattle.rules.specs.Fold.{sumTo, at, before}
 use Rattle.rules.specs.Layout.{quantityMost, priceMost, withdrawal}
 use Rattle.rules.specs.Matching.{earlier, rise, fall, matched}

@@ -1,10 +1,10 @@
 -- Numbers one after another, each after a space.
-use Prim.Native.Nat.{ℕ, _+_, _-_}
+use Prim.Native.Nat.{ℕ}
 use mathlib.Core.Path.{_≡_, refl}
 use mathlib.Core.List.{List, _++_}
 use lib.ListN.{length}
 use lib.IntN.{ℤ}
-use Rattle.rules.specs.Fold.{joined, five, at}
+use Rattle.rules.specs.Fold.{joined, at}
 use Rattle.rules.specs.Report.{decimal, signedDecimal, space, lineFeed}
 use Rattle.rules.specs.Report.{numberAfter, fiveNumbers}
 

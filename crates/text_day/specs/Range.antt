@@ -1,16 +1,16 @@
 -- What an accepted day's book holds fits its words and signed numbers; so the report read off the book is the day's report.
 use Prim.Native.Nat.{ℕ, _^_, _≤_, _<_}
 use native.Mathlib.Omega.{arith}
-use mathlib.Core.Path.{_≡_, refl, sym, _∙_, ap}
+use mathlib.Core.Path.{_≡_, refl, sym, ap}
 use mathlib.Core.List.{List, []}
 use mathlib.Core.Bool.{Bool, true, false, cond}
 use lib.ListN.{length, getD}
 use lib.Dec.{ltb}
-use lib.IntN.{ℤ, pos}
+use lib.IntN.{pos}
 use borrow.Author.Tests.{ltb-true, ltb-false}
 use Rattle.rules.specs.Fold.{atZ}
-use Rattle.rules.specs.Layout.{mostLines, lineCount, lineAt}
-use Rattle.rules.specs.Refusals.{bookLength, dayFault, settleFault}
+use Rattle.rules.specs.Layout.{mostLines, lineAt}
+use Rattle.rules.specs.Refusals.{bookLength, settleFault}
 use Rattle.rules.specs.Totals.{linePayment, total, totals, adjustedTotal}
 use Rattle.rules.specs.Book.{bookAfter}
 use Rattle.rules.specs.Report.{reportText}

@@ -1,5 +1,5 @@
 -- The report's lines (`rules`, Report) over plain values.
-use Prim.Native.Nat.{ℕ, _+_, _-_}
+use Prim.Native.Nat.{ℕ}
 use mathlib.Core.Path.{_≡_, refl, _∙_, ap}
 use mathlib.Core.List.{List, _++_, append-assoc}
 use lib.IntN.{ℤ}

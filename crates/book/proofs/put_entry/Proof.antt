@@ -8,7 +8,9 @@ use Rattle.book.proofs.put_entry.Tie as tie
 
 returns : tie.Need-returns
 unfolding entryOf
-returns c = then (c .before .before .before .before .before .before .put-words .ensures) (c .before .before .put-five .ensures)
+returns c =
+    let after-put-words = c .before .before .before .before .before .before in
+    then (after-put-words .put-words .ensures) (c .before .before .put-five .ensures)
 
 pub put-entry-spec : {M : Type 1} → statement M
 put-entry-spec =

@@ -21,7 +21,14 @@ loop-holds : tie.Need-loop-holds Inv-loop μ-loop
 loop-holds c = (search needs, search needs, search needs, row-none _ _ 8 _)
 
 loop-again : tie.Need-loop-again Inv-loop μ-loop
-loop-again c = (search needs, search needs, search needs, money-more (atZ (c .before .before .before .before .before .before .before .before .args .t3)) (c .before .before .before .before .before .before .loop .s) (array-fits 5 (c .before .before .before .before .before .before .before .before .args .t3) _ (c .before .before .before .before .before .before .before .before .good .1 .1 .0) (c .before .before .before .before .before .before .loop .s)) (c .before .before .before .before .before .before .loop .inv .3) (c .before .before .put-money .ensures))
+loop-again c =
+    let at-loop = c .before .before .before .before .before .before in
+    let at-start = at-loop .before .before in
+    let t3 = at-start .args .t3 in
+    let money-more′ = money-more (atZ t3) (at-loop .loop .s)
+    (array-fits 5 t3 _ (at-start .good .1 .1 .0) (at-loop .loop .s)) (at-loop .loop .inv .3)
+    (c .before .before .put-money .ensures) in
+    (search needs, search needs, search needs, money-more′)
 
 returns : tie.Need-returns Inv-loop μ-loop
 returns c = row-all _ 8 (c .before .loop .s) (c .before .loop .inv .0) (search needs) (c .before .loop .inv .3)

@@ -8,7 +8,9 @@ use Rattle.book.proofs.put_front.Tie as tie
 
 returns : tie.Need-returns
 unfolding frontOf
-returns c = then (c .before .before .before .before .before .before .put-words .ensures) (c .before .before .put-pairs .ensures)
+returns c =
+    let after-put-words = c .before .before .before .before .before .before in
+    then (after-put-words .put-words .ensures) (c .before .before .put-pairs .ensures)
 
 pub put-front-spec : {M : Type 1} → statement M
 put-front-spec =

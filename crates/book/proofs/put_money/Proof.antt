@@ -8,7 +8,9 @@ use Rattle.book.proofs.put_money.Statement.{statement}
 use Rattle.book.proofs.put_money.Tie as tie
 
 returns : tie.Need-returns
-returns c = own signedBytes _ (c .before .before .before .before .before .fits .v) (written-le 8 _ _ (c .before .before .put-signed .ensures))
+returns c =
+    let at-start = c .before .before .before .before .before in
+    own signedBytes _ (at-start .fits .v) (written-le 8 _ _ (c .before .before .put-signed .ensures))
 
 pub put-money-spec : {M : Type 1} → statement M
 put-money-spec =

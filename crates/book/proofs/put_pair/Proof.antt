@@ -8,7 +8,11 @@ use Rattle.book.proofs.put_pair.Statement.{statement}
 use Rattle.book.proofs.put_pair.Tie as tie
 
 returns : tie.Need-returns
-returns c = then (own signedBytes _ (c .before .before .before .before .before .before .before .before .before .fits .t) (c .before .before .before .before .before .before .put-money .ensures)) (own signedBytes _ (c .before .before .before .before .before .before .before .before .before .fits .a) (c .before .before .put-money2 .ensures))
+returns c =
+    let after-put-money = c .before .before .before .before .before .before in
+    let at-start = after-put-money .before .before .before in
+    let own′ = own signedBytes _ (at-start .fits .t) (after-put-money .put-money .ensures) in
+    then own′ (own signedBytes _ (at-start .fits .a) (c .before .before .put-money2 .ensures))
 
 pub put-pair-spec : {M : Type 1} → statement M
 put-pair-spec =

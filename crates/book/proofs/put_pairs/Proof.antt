@@ -12,7 +12,9 @@ use Rattle.book.proofs.put_pairs.Statement.{statement}
 use Rattle.book.proofs.put_pairs.Tie as tie
 
 abbrev Inv-loop : tie.InvT-loop
-Inv-loop book₀ at t a p₀ s₀ book p s = (s ≤ 5) × (length book ≡ length book₀) × (length t ≡ 5) × (length a ≡ 5) × (Written (16 * s) book₀ at (joined s (pairBytes (atZ t) (atZ a))) p book)
+Inv-loop book₀ at t a p₀ s₀ book p s =
+    (s ≤ 5) × (length book ≡ length book₀) × (length t ≡ 5) × (length a ≡ 5)
+    × (Written (16 * s) book₀ at (joined s (pairBytes (atZ t) (atZ a))) p book)
 
 abbrev μ-loop : tie.MeasureT-loop
 μ-loop book₀ at t a p₀ s₀ book p s = 5 - s
@@ -21,7 +23,16 @@ loop-holds : tie.Need-loop-holds Inv-loop μ-loop
 loop-holds c = (search needs, search needs, search needs, search needs, row-none _ _ 16 _)
 
 loop-again : tie.Need-loop-again Inv-loop μ-loop
-loop-again c = (search needs, search needs, search needs, search needs, pair-more (atZ (c .before .before .before .before .before .before .before .before .before .args .t3)) (atZ (c .before .before .before .before .before .before .before .before .before .args .t4)) (c .before .before .before .before .before .before .before .loop .s) (array-fits 5 (c .before .before .before .before .before .before .before .before .before .args .t3) _ (c .before .before .before .before .before .before .before .before .before .good .1 .1 .0) (c .before .before .before .before .before .before .before .loop .s)) (array-fits 5 (c .before .before .before .before .before .before .before .before .before .args .t4) _ (c .before .before .before .before .before .before .before .before .before .good .1 .1 .1 .0) (c .before .before .before .before .before .before .before .loop .s)) (c .before .before .before .before .before .before .before .loop .inv .4) (c .before .before .put-pair .ensures))
+loop-again c =
+    let at-loop = c .before .before .before .before .before .before .before in
+    let at-start = at-loop .before .before in
+    let t3 = at-start .args .t3 in
+    let t4 = at-start .args .t4 in
+    let pair-more′ = pair-more (atZ t3) (atZ t4) (at-loop .loop .s)
+    (array-fits 5 t3 _ (at-start .good .1 .1 .0) (at-loop .loop .s))
+    (array-fits 5 t4 _ (at-start .good .1 .1 .1 .0) (at-loop .loop .s)) (at-loop .loop .inv .4)
+    (c .before .before .put-pair .ensures) in
+    (search needs, search needs, search needs, search needs, pair-more′)
 
 returns : tie.Need-returns Inv-loop μ-loop
 returns c = row-all _ 16 (c .before .loop .s) (c .before .loop .inv .0) (search needs) (c .before .loop .inv .4)

@@ -37,9 +37,10 @@ sub-result-2 c =
 
 returns-2 : tie.Need-returns-2
 returns-2 c =
-    let f = fits _ (c .before .fits .v) in
-    down-bits (own (c .before .args .v)) _ f (c .if1 .left) (down-is (own (c .before .args .v)) f (c .if1 .left))
-    ∙ ap bits64 (toZ-ofZ (c .before .fits .v))
+    let at-start = c .before in
+    let f = fits _ (at-start .fits .v) in
+    down-bits (own (at-start .args .v)) _ f (c .if1 .left) (down-is (own (at-start .args .v)) f (c .if1 .left))
+    ∙ ap bits64 (toZ-ofZ (at-start .fits .v))
 
 pub bits-spec : {M : Type 1} → statement M
 bits-spec =

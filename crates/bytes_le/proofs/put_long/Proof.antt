@@ -6,7 +6,8 @@ use Rattle.bytes_le.proofs.put_long.Tie as tie
 
 returns : tie.Need-returns
 returns c =
-    both-halves _ _ _ _ _ (c .before .before .before .before .before .before .put-word .ensures) (c .before .before .put-word2 .ensures)
+    let after-put-word = c .before .before .before .before .before .before in
+    both-halves _ _ _ _ _ (after-put-word .put-word .ensures) (c .before .before .put-word2 .ensures)
 
 pub put-long-spec : {M : Type 1} → statement M
 put-long-spec =

@@ -12,9 +12,10 @@ use Rattle.bytes_le.proofs.put_signed.Tie as tie
 returns : tie.Need-returns
 returns c =
     let s = c .before .before .before .before .before .before in
-    c .before .before .put-long .ensures
+    let equal′ = c .before .before .put-long .ensures
     ∙ ap (λ (x : ℕ). sets (now (s .args .b)) (s .args .at) (le 8 x))
-    (c .before .before .before .bits .ensures ∙ ap bits64 (toZ-ofZ (s .fits .v)))
+    (c .before .before .before .bits .ensures ∙ ap bits64 (toZ-ofZ (s .fits .v))) in
+    equal′
 
 pub put-signed-spec : {M : Type 1} → statement M
 put-signed-spec = tie.close (tie.spec (λ c κs. search needs) (λ c κs. search needs) (λ c. search needs) returns)

@@ -8,13 +8,31 @@ use Rattle.certificate_calls.proofs.ends_agree.Statement.{statement}
 use Rattle.certificate_calls.proofs.ends_agree.Tie as tie
 
 mul-result : tie.Need-mul-result
-mul-result c = record { fits = omega (arith, step-few (now (c .before .before .before .before .before .before .before .args .day)) (c .before .before .before .before .before .before .before .args .line) (c .before .before .before .before .before .before .before .args .step) _ _ _ (c .before .before .before .before .before .view .ensures) (c .before .before .before .if1 .left) (c .before .before .line-part .ensures) (c .before .cut .ensures)) }
+mul-result c =
+    let after-view = c .before .before .before .before .before in
+    let at-start = after-view .before .before in
+    let step-few′ = step-few (now (at-start .args .day)) (at-start .args .line) (at-start .args .step) _ _ _
+    (after-view .view .ensures) (c .before .before .before .if1 .left) (c .before .before .line-part .ensures)
+    (c .before .cut .ensures) in
+    record { fits = omega (arith, step-few′) }
 
 array-read-result : tie.Need-array-read-result
-array-read-result c = omega (arith, step-few (now (c .before .before .before .before .before .before .before .args .day)) (c .before .before .before .before .before .before .before .args .line) (c .before .before .before .before .before .before .before .args .step) _ _ _ (c .before .before .before .before .before .view .ensures) (c .before .before .before .if1 .left) (c .before .before .line-part .ensures) (c .before .cut .ensures))
+array-read-result c =
+    let after-view = c .before .before .before .before .before in
+    let at-start = after-view .before .before in
+    let step-few′ = step-few (now (at-start .args .day)) (at-start .args .line) (at-start .args .step) _ _ _
+    (after-view .view .ensures) (c .before .before .before .if1 .left) (c .before .before .line-part .ensures)
+    (c .before .cut .ensures) in
+    omega (arith, step-few′)
 
 returns-2 : tie.Need-returns-2
-returns-2 c = eq-eqb _ _ (same-end (now (c .before .before .before .before .before .before .before .before .args .day)) (c .before .before .before .before .before .before .before .before .args .line) (c .before .before .before .before .before .before .before .before .args .step) _ _ _ (c .before .before .before .before .before .before .view .ensures) (c .before .before .before .before .if1 .left) (c .before .before .before .line-part .ensures) (c .before .before .cut .ensures))
+returns-2 c =
+    let in-else1 = c .before .before .before .before in
+    let at-start = in-else1 .before .before .before .before in
+    let same-end′ = same-end (now (at-start .args .day)) (at-start .args .line) (at-start .args .step) _ _ _
+    (in-else1 .before .before .view .ensures) (in-else1 .if1 .left) (c .before .before .before .line-part .ensures)
+    (c .before .before .cut .ensures) in
+    eq-eqb _ _ same-end′
 
 pub ends-agree-spec : {M : Type 1} → statement M
 ends-agree-spec =

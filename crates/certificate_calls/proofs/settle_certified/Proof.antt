@@ -6,7 +6,15 @@ use Rattle.certificate_calls.proofs.settle_certified.Statement.{stateme
 use Rattle.certificate_calls.proofs.settle_certified.Tie as tie
 
 returns : tie.Need-returns
-returns c = (c .before .before .settle .ensures .0, (c .before .before .settle .ensures .1, λ z. settled-certified (now (c .before .before .before .before .before .before .args .day)) _ _ _ (c .before .before .settle .ensures .0) (c .before .before .settle .ensures .1) z))
+returns c =
+    let after-settle = c .before .before in
+    let at-start = after-settle .before .before .before .before in (
+      after-settle .settle .ensures .0,
+      (
+        after-settle .settle .ensures .1,
+        λ z. settled-certified (now (at-start .args .day)) _ _ _ (after-settle .settle .ensures .0) (after-settle .settle .ensures .1) z,
+      ),
+    )
 
 pub settle-certified-spec : {M : Type 1} → statement M
 settle-certified-spec =

@@ -3,11 +3,6 @@ use borrow.Author.Needs.{needs}
 use Rattle.cutter.proofs.Answers.{cut-short, cut-refused, cut-line, cut-whole}
 use Rattle.cutter.proofs.cut.Statement.{statement}
 use Rattle.cutter.proofs.cut.Tie as tie
-use Rattle.cutter.proofs.cut.Reads as reads
-use Rattle.cutter.proofs.cut.Lts as lts
-use Rattle.cutter.proofs.refused.Reads as refused-reads
-use Rattle.cutter.proofs.steps.steps.Reads as steps-reads
-use Rattle.line.proofs.line_number.Reads as line-number-reads
 
 refused-requires : tie.Need-refused-requires
 refused-requires c κs = search needs

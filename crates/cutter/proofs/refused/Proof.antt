@@ -3,8 +3,6 @@ use mathlib.Core.Path.{refl}
 use Rattle.rules.specs.Cutting.{cutRefused}
 use Rattle.cutter.proofs.refused.Statement.{statement}
 use Rattle.cutter.proofs.refused.Tie as tie
-use Rattle.cutter.proofs.refused.Reads as reads
-use Rattle.cutter.proofs.refused.Lts as lts
 
 returns : tie.Need-returns
 unfolding cutRefused

@@ -1,12 +1,12 @@
 -- What the sweep has done after n steps, as one record, with its start, its step and its end.
-use Prim.Native.Nat.{ℕ, zero, suc, _+_, _*_, _-_, _^_, _≤_, _<_}
+use Prim.Native.Nat.{ℕ, zero, suc, _+_, _≤_, _<_}
 use native.Mathlib.Nat.{zero-add}
 use native.Mathlib.Numerals.{add-one}
 use native.Mathlib.Omega.{arith}
 use native.Mathlib.Decide.{decLt}
-use mathlib.Core.Path.{_≡_, refl, sym, _∙_, ap, ap₂, subst}
-use mathlib.Core.List.{List, [], _∷_, _++_, map}
-use lib.ListN.{length, getD, take, set, replicate, length-map, List·getD-eq-default}
+use mathlib.Core.Path.{_≡_, refl, sym, _∙_, ap, subst}
+use mathlib.Core.List.{List, [], _∷_}
+use lib.ListN.{length, getD, take, set, replicate, List·getD-eq-default}
 use lib.Seq.{take-all}
 use lib.Count.{ones}
 use Rattle.rules.specs.Fold.{padded, joined}
@@ -222,7 +222,9 @@ module _ {w : List ℕ} {n : ℕ} {at : Sweep} {e g : ℕ} {es ps : List ℕ} {x
       let q : e + 1 + g ≡ lowerEnd w (suc n) = unfold lowerEnd upperEnd in end-is in
       rw (p, r, moves, q) (sweep-limited w (h .accepted) (lowerEnd w (suc n)) (lower-limit w (h .accepted) (suc n) below-count))
 
-  pub swept-more : {at' : Sweep} {k g' : ℕ} {ps' : List ℕ} {x' : Words} → k ≡ hedge w → ps' ≡ pricesPut w ps at n → x' ≡ wordsMarked x at (e + 1 + g) n → at' ≡ sweepMoved w at (e + 1 + g) → g' ≡ nextGap at' k (e + 1 + g) → Swept w (n + 1) at' (e + 1 + g) g' (set es n (e + 1 + g)) ps' x'
+  pub swept-more : {at' : Sweep} {k g' : ℕ} {ps' : List ℕ} {x' : Words} → k ≡ hedge w → ps' ≡ pricesPut w ps at n
+      → x' ≡ wordsMarked x at (e + 1 + g) n → at' ≡ sweepMoved w at (e + 1 + g) → g' ≡ nextGap at' k (e + 1 + g)
+      → Swept w (n + 1) at' (e + 1 + g) g' (set es n (e + 1 + g)) ps' x'
   swept-more {at'} {k} {g'} f p q r s =
       let c = count-most w (h .accepted) in
       let m = r ∙ moves in
@@ -277,7 +279,16 @@ module _ {w : List ℕ} {n : ℕ} {at : Sweep} {e g : ℕ} {es ps : List ℕ} {x
   unfolding stepCount
   ends-all = let a = all in v .ends ∙ ap (padded 56) (take-all n (ends w) (omega arith))
 
-  pub swept-all : _≡_ {A = Cut} (record { number = 0; count = n; ends = es; prices = ps; flags = x .first ∷ x .second ∷ x .third ∷ x .fourth ∷ x .fifth ∷ []; missing = ones (x .first) ∷ ones (x .second) ∷ ones (x .third) ∷ ones (x .fourth) ∷ ones (x .fifth) ∷ [] }) (cutOf w)
+  pub swept-all : _≡_ {A = Cut}
+      (record {
+        number = 0;
+        count = n;
+        ends = es;
+        prices = ps;
+        flags = x .first ∷ x .second ∷ x .third ∷ x .fourth ∷ x .fifth ∷ [];
+        missing = ones (x .first) ∷ ones (x .second) ∷ ones (x .third) ∷ ones (x .fourth) ∷ ones (x .fifth) ∷ [];
+      })
+      (cutOf w)
   unfolding cutOf wordsTo
   swept-all =
       rw (v .words)

@@ -7,20 +7,12 @@ use Rattle.cutter_c.proofs.mewikofu_cut.Tie as tie
 
 returns : tie.Need-returns
 returns c =
-    let e = c .before .before .before .before .cut .ensures in (
+    let after-cut = c .before .before .before .before in
+    let e = after-cut .cut .ensures in (
       ap (λ (r : Cut). r .number) e,
       (
         ap (λ (r : Cut). r .count) e,
-        (
-          ap (λ (r : Cut). r .ends) e,
-          (
-            ap (λ (r : Cut). r .prices) e,
-            (
-              ap (λ (r : Cut). r .flags) e,
-              ap (λ (r : Cut). r .missing) e,
-            ),
-          ),
-        ),
+        (ap (λ (r : Cut). r .ends) e, (ap (λ (r : Cut). r .prices) e, (ap (λ (r : Cut). r .flags) e, ap (λ (r : Cut). r .missing) e))),
       ),
     )
 

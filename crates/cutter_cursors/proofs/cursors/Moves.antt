@@ -9,7 +9,7 @@ use lib.ListN.{length, set}
 use lib.Dec.{eqb, ltb}
 use lib.Bits.{bitOr, or-shifted-r}
 use lib.Pow.{shl-exact}
-use borrow.Author.Tests.{lt-ltb, le-ltb, eq-eqb, ne-eqb}
+use borrow.Author.Tests.{lt-ltb, le-ltb, ne-eqb}
 use Rattle.rules.specs.Layout.{quantityMost, bidCount, bidBreak, bidPrice}
 use Rattle.rules.specs.Steps.{bidStep}
 use Rattle.rules.specs.Payments.{bit}
@@ -86,7 +86,9 @@ cursor-first w h s l =
     let e = step-is f in
     ap (cursorAt w s) (omega arith)
 
-pub start-is : (w : List ℕ) {a b c d e : Cursor} → Line w → a ≡ cursorAt w 0 0 → b ≡ cursorAt w 1 0 → c ≡ cursorAt w 2 0 → d ≡ cursorAt w 3 0 → e ≡ cursorAt w 4 0 → _≡_ {A = Sweep} (record { first = a; second = b; third = c; fourth = d; fifth = e }) (sweepFor w 0)
+pub start-is : (w : List ℕ) {a b c d e : Cursor} → Line w → a ≡ cursorAt w 0 0 → b ≡ cursorAt w 1 0
+    → c ≡ cursorAt w 2 0 → d ≡ cursorAt w 3 0 → e ≡ cursorAt w 4 0
+    → _≡_ {A = Sweep} (record { first = a; second = b; third = c; fourth = d; fifth = e }) (sweepFor w 0)
 unfolding sweepFor
 start-is w l a b c d e =
     λ i.
@@ -98,7 +100,10 @@ start-is w l a b c d e =
       fifth = (e ∙ cursor-first w l 4 (omega arith)) i;
     }
 
-pub passed-is : (w : List ℕ) (at : Sweep) (u : ℕ) {a b c d e : Cursor} → a ≡ cursorMoved w 0 (at .first) u → b ≡ cursorMoved w 1 (at .second) u → c ≡ cursorMoved w 2 (at .third) u → d ≡ cursorMoved w 3 (at .fourth) u → e ≡ cursorMoved w 4 (at .fifth) u → _≡_ {A = Sweep} (record { first = a; second = b; third = c; fourth = d; fifth = e }) (sweepMoved w at u)
+pub passed-is : (w : List ℕ) (at : Sweep) (u : ℕ) {a b c d e : Cursor} → a ≡ cursorMoved w 0 (at .first) u
+    → b ≡ cursorMoved w 1 (at .second) u → c ≡ cursorMoved w 2 (at .third) u → d ≡ cursorMoved w 3 (at .fourth) u
+    → e ≡ cursorMoved w 4 (at .fifth) u
+    → _≡_ {A = Sweep} (record { first = a; second = b; third = c; fourth = d; fifth = e }) (sweepMoved w at u)
 unfolding sweepMoved
 passed-is w at u a b c d e = λ i. record { first = a i; second = b i; third = c i; fourth = d i; fifth = e i }
 
@@ -111,7 +116,10 @@ gap-is x e b r p q f l g =
       | no k ↦ rw (le-ltb e x (omega arith)) (omega arith)
     ]
 
-pub next-is : (at : Sweep) (h x : ℕ) {a b c d e f p q l m r : ℕ} → a ≡ gapOf (at .first .head) x → b ≡ gapOf (at .second .head) x → p ≡ min a b → c ≡ gapOf (at .third .head) x → d ≡ gapOf (at .fourth .head) x → q ≡ min c d → l ≡ min p q → e ≡ gapOf (at .fifth .head) x → f ≡ gapOf h x → m ≡ min e f → r ≡ min l m → r ≡ nextGap at h x
+pub next-is : (at : Sweep) (h x : ℕ) {a b c d e f p q l m r : ℕ} → a ≡ gapOf (at .first .head) x
+    → b ≡ gapOf (at .second .head) x → p ≡ min a b → c ≡ gapOf (at .third .head) x → d ≡ gapOf (at .fourth .head) x
+    → q ≡ min c d → l ≡ min p q → e ≡ gapOf (at .fifth .head) x → f ≡ gapOf h x → m ≡ min e f → r ≡ min l m
+    → r ≡ nextGap at h x
 unfolding nextGap
 next-is at h x a b p c d q l e f m r = cc
 
@@ -127,7 +135,11 @@ flag-put x f n r =
 pub room-of : {x f g n : ℕ} → f ≡ g → Room x g n → Room x f n
 room-of {x} {f} {g} {n} e r = subst (λ (y : ℕ). Room x y n) (sym e) r
 
-pub marked-is : (x : Words) (at : Sweep) (u n : ℕ) {a b c d e f g h i j : ℕ} → f ≡ bit (ltb (at .first .head) u) → a ≡ withFlag (x .first) f n → g ≡ bit (ltb (at .second .head) u) → b ≡ withFlag (x .second) g n → h ≡ bit (ltb (at .third .head) u) → c ≡ withFlag (x .third) h n → i ≡ bit (ltb (at .fourth .head) u) → d ≡ withFlag (x .fourth) i n → j ≡ bit (ltb (at .fifth .head) u) → e ≡ withFlag (x .fifth) j n → _≡_ {A = Words} (record { first = a; second = b; third = c; fourth = d; fifth = e }) (wordsMarked x at u n)
+pub marked-is : (x : Words) (at : Sweep) (u n : ℕ) {a b c d e f g h i j : ℕ} → f ≡ bit (ltb (at .first .head) u)
+    → a ≡ withFlag (x .first) f n → g ≡ bit (ltb (at .second .head) u) → b ≡ withFlag (x .second) g n
+    → h ≡ bit (ltb (at .third .head) u) → c ≡ withFlag (x .third) h n → i ≡ bit (ltb (at .fourth .head) u)
+    → d ≡ withFlag (x .fourth) i n → j ≡ bit (ltb (at .fifth .head) u) → e ≡ withFlag (x .fifth) j n
+    → _≡_ {A = Words} (record { first = a; second = b; third = c; fourth = d; fifth = e }) (wordsMarked x at u n)
 unfolding wordsMarked
 marked-is x at u n f a g b h c i d j e =
     λ k.
@@ -140,6 +152,9 @@ marked-is x at u n f a g b h c i d j e =
     }
 
 -- prices
-pub put-is : (w l : List ℕ) (at : Sweep) (n : ℕ) {a b c d e : ℕ} → a ≡ bidPrice w 0 (at .first .at) → b ≡ bidPrice w 1 (at .second .at) → c ≡ bidPrice w 2 (at .third .at) → d ≡ bidPrice w 3 (at .fourth .at) → e ≡ bidPrice w 4 (at .fifth .at) → set (set (set (set (set l n a) (56 + n) b) (112 + n) c) (168 + n) d) (224 + n) e ≡ pricesPut w l at n
+pub put-is : (w l : List ℕ) (at : Sweep) (n : ℕ) {a b c d e : ℕ} → a ≡ bidPrice w 0 (at .first .at)
+    → b ≡ bidPrice w 1 (at .second .at) → c ≡ bidPrice w 2 (at .third .at) → d ≡ bidPrice w 3 (at .fourth .at)
+    → e ≡ bidPrice w 4 (at .fifth .at)
+    → set (set (set (set (set l n a) (56 + n) b) (112 + n) c) (168 + n) d) (224 + n) e ≡ pricesPut w l at n
 unfolding pricesPut
 put-is w l at n a b c d e = λ i. set (set (set (set (set l n (a i)) (56 + n) (b i)) (112 + n) (c i)) (168 + n) (d i)) (224 + n) (e i)

@@ -6,7 +6,9 @@ use Rattle.day_pools.proofs.pool_for.Statement.{statement}
 use Rattle.day_pools.proofs.pool_for.Tie as tie
 
 returns : tie.Need-returns
-returns c = pool-off _ _ _ _ (market-claw (now (c .before .before .before .before .args .day)) _ (c .before .before .before .before .pre .1)) (c .before .if1 .taken)
+returns c =
+    let at-start = c .before .before .before .before in
+    pool-off _ _ _ _ (market-claw (now (at-start .args .day)) _ (at-start .pre .1)) (c .before .if1 .taken)
 
 returns-2 : tie.Need-returns-2
 returns-2 c = pool-on _ _ _ (c .side-pool .ensures)

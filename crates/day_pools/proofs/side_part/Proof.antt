@@ -7,16 +7,24 @@ use Rattle.day_pools.proofs.side_part.Statement.{statement}
 use Rattle.day_pools.proofs.side_part.Tie as tie
 
 line-of-requires : tie.Need-line-of-requires
-line-of-requires c κs = line-lies (now (c .before .args .day)) (c .before .pre .0) (c .before .args .k) (c .before .pre .1)
+line-of-requires c κs =
+    let at-start = c .before in
+    line-lies (now (at-start .args .day)) (at-start .pre .0) (at-start .args .k) (at-start .pre .1)
 
 word-at-requires : tie.Need-word-at-requires
-word-at-requires c κs = omega (arith, lent-length (now (c .before .before .args .day)) (c .before .before .pre .0) (c .before .before .args .k) (c .before .before .pre .1) _ (c .line-of .ensures))
+word-at-requires c κs =
+    let at-start = c .before .before in
+    omega (arith, lent-length (now (at-start .args .day)) (at-start .pre .0) (at-start .args .k) (at-start .pre .1) _ (c .line-of .ensures))
 
 returns : tie.Need-returns
-returns c = part-other _ _ _ _ _ _ (c .before .before .before .line-of .ensures) (c .before .before .word-at .ensures) (c .before .if1 .taken) (c .empty-pool .ensures)
+returns c =
+    part-other _ _ _ _ _ _ (c .before .before .before .line-of .ensures) (c .before .before .word-at .ensures)
+    (c .before .if1 .taken) (c .empty-pool .ensures)
 
 returns-2 : tie.Need-returns-2
-returns-2 c = part-own _ _ _ _ _ _ (c .before .before .before .line-of .ensures) (c .before .before .word-at .ensures) (c .before .if1 .left) (c .line-pool .ensures)
+returns-2 c =
+    part-own _ _ _ _ _ _ (c .before .before .before .line-of .ensures) (c .before .before .word-at .ensures)
+    (c .before .if1 .left) (c .line-pool .ensures)
 
 pub side-part-spec : {M : Type 1} → statement M
 side-part-spec =

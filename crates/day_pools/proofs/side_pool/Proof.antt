@@ -21,19 +21,36 @@ line-count-requires : tie.Need-line-count-requires Inv-loop μ-loop
 line-count-requires c κs = omega (arith, c .before .pre .0 .header .length-least)
 
 loop-holds : tie.Need-loop-holds Inv-loop μ-loop
-loop-holds c = (omega arith, c .empty-pool .ensures ∙ no-pool (sidePart (now (c .before .before .before .args .day)) (c .before .before .before .args .sd)))
+loop-holds c =
+    let at-start = c .before .before .before in
+    (omega arith, c .empty-pool .ensures ∙ no-pool (sidePart (now (at-start .args .day)) (at-start .args .sd)))
 
 side-part-requires : tie.Need-side-part-requires Inv-loop μ-loop
-side-part-requires c κs = (c .before .before .before .before .before .pre .0, omega (arith, c .before .before .before .line-count .ensures), c .before .before .before .before .before .pre .1)
+side-part-requires c κs =
+    let at-start = c .before .before .before .before .before in
+    (at-start .pre .0, omega (arith, c .before .before .before .line-count .ensures), at-start .pre .1)
 
 pool-add-requires : tie.Need-pool-add-requires Inv-loop μ-loop
-pool-add-requires c κs = side-addable (now (c .before .before .before .before .before .before .args .day)) (c .before .before .before .before .before .before .pre .0) (c .before .before .before .before .before .before .args .sd) (c .before .before .loop .k) (omega (arith, c .before .before .before .before .line-count .ensures)) _ _ (c .before .before .loop .inv .1) (c .side-part .ensures)
+pool-add-requires c κs =
+    let at-loop = c .before .before in
+    let at-start = at-loop .before .before .before .before in
+    side-addable (now (at-start .args .day)) (at-start .pre .0) (at-start .args .sd) (at-loop .loop .k)
+    (omega (arith, at-loop .before .before .line-count .ensures)) _ _ (at-loop .loop .inv .1) (c .side-part .ensures)
 
 loop-again : tie.Need-loop-again Inv-loop μ-loop
-loop-again c = (omega arith, side-next (now (c .before .before .before .before .before .before .before .args .day)) (c .before .before .before .before .before .before .before .pre .0) (c .before .before .before .before .before .before .before .args .sd) (c .before .before .before .loop .k) _ _ _ (c .before .before .before .loop .inv .1) (c .before .side-part .ensures) (c .pool-add .ensures))
+loop-again c =
+    let at-loop = c .before .before .before in
+    let at-start = at-loop .before .before .before .before in
+    let side-next′ = side-next (now (at-start .args .day)) (at-start .pre .0) (at-start .args .sd) (at-loop .loop .k) _ _ _
+    (at-loop .loop .inv .1) (c .before .side-part .ensures) (c .pool-add .ensures) in
+    (omega arith, side-next′)
 
 returns : tie.Need-returns Inv-loop μ-loop
-returns c = side-whole (now (c .before .before .before .before .before .args .day)) (c .before .before .before .before .before .args .sd) _ (c .before .loop .k) _ (c .before .before .before .line-count .ensures) (c .before .loop .inv .0) (c .loop-test .left) (c .before .loop .inv .1)
+returns c =
+    let at-loop = c .before in
+    let at-start = at-loop .before .before .before .before in
+    side-whole (now (at-start .args .day)) (at-start .args .sd) _ (at-loop .loop .k) _
+    (at-loop .before .before .line-count .ensures) (at-loop .loop .inv .0) (c .loop-test .left) (at-loop .loop .inv .1)
 
 pub side-pool-spec : {M : Type 1} → statement M
 side-pool-spec =

@@ -13,18 +13,20 @@ use Rattle.day_totals.proofs.adjusted_in.Tie as tie
 
 returns : tie.Need-returns
 returns c =
-    let t = c .before .before .args .t1 in
-    let s = c .before .before .args .s in
-    let p = c .before .before .pre in
+    let at-start = c .before .before in
+    let t = at-start .args .t1 in
+    let s = at-start .args .s in
+    let p = at-start .pre in
     let first : isKept t s ≡ true = rw (c .before .if1 .taken) in
     let e = rw (read-back (p .1 .1 .0) (least-fits t (p .0) s (p .1 .0))) at (c .kept .ensures) in
     read-back (e ∙ sym (adjusted-kept t s first)) (adjusted-fits t (p .0) s (p .1 .0))
 
 returns-2 : tie.Need-returns-2
 returns-2 c =
-    let t = c .before .before .before .before .args .t1 in
-    let s = c .before .before .before .before .args .s in
-    let p = c .before .before .before .before .pre in
+    let at-start = c .before .before .before .before in
+    let t = at-start .args .t1 in
+    let s = at-start .args .s in
+    let p = at-start .pre in
     let own = read-back {x = atZ t s} refl (total-fits t (p .0) s (p .1 .0)) in
     let sign : nonNeg (atZ t s) ≡ true = sym (zero-leZ (atZ t s)) ∙ rw own at (c .before .if2 .taken) in
     let kept : isKept t s ≡ true = rw (ne-eqb s 0 (c .before .before .before .if1 .left), sign) in
@@ -33,17 +35,21 @@ returns-2 c =
 
 owed-requires : tie.Need-owed-requires
 owed-requires c κs =
-    let t = c .before .before .before .args .t1 in
-    let s = c .before .before .before .args .s in
-    let p = c .before .before .before .pre in
-    simp (read-back {x = atZ t s} refl (total-fits t (p .0) s (p .1 .0)), read-back (p .1 .1 .1) (carried-fits t (p .0) s (omega arith)))
-    (owed-sum-fits t (p .0) s (p .1 .0))
+    let at-start = c .before .before .before in
+    let t = at-start .args .t1 in
+    let s = at-start .args .s in
+    let p = at-start .pre in
+    simp (
+      read-back {x = atZ t s} refl (total-fits t (p .0) s (p .1 .0)),
+      read-back (p .1 .1 .1) (carried-fits t (p .0) s (omega arith)),
+    ) (owed-sum-fits t (p .0) s (p .1 .0))
 
 returns-3 : tie.Need-returns-3
 returns-3 c =
-    let t = c .before .before .before .before .args .t1 in
-    let s = c .before .before .before .before .args .s in
-    let p = c .before .before .before .before .pre in
+    let at-start = c .before .before .before .before in
+    let t = at-start .args .t1 in
+    let s = at-start .args .s in
+    let p = at-start .pre in
     let own = read-back {x = atZ t s} refl (total-fits t (p .0) s (p .1 .0)) in
     let sign : nonNeg (atZ t s) ≡ false = sym (zero-leZ (atZ t s)) ∙ rw own at (c .before .if2 .left) in
     let owed : isKept t s ≡ false = rw (ne-eqb s 0 (c .before .before .before .if1 .left), sign) in

@@ -14,32 +14,42 @@ use Rattle.day_totals.proofs.carry.Tie as tie
 
 sub-rest : tie.Need-sub-rest
 sub-rest c =
-    let t = c .before .args .t1 in
-    let s = c .before .args .s in
-    let b = c .before .pre .0 in
-    let l = c .before .pre .1 .0 in
-    rw (read-back {x = atZ t s} refl (total-fits t b s l), read-back (c .before .pre .1 .1 .1) (adjusted-fits t b s l))
+    let at-start = c .before in
+    let t = at-start .args .t1 in
+    let s = at-start .args .s in
+    let b = at-start .pre .0 in
+    let l = at-start .pre .1 .0 in
+    rw (read-back {x = atZ t s} refl (total-fits t b s l), read-back (at-start .pre .1 .1 .1) (adjusted-fits t b s l))
     (rest-fits t b s l)
 
 add-result : tie.Need-add-result
 add-result c =
-    let t = c .before .args .t1 in
-    let s = c .before .args .s in
-    let b = c .before .pre .0 in
-    let l = c .before .pre .1 .0 in
-    rw (read-back {x = atZ t s} refl (total-fits t b s l), read-back (c .before .pre .1 .1 .1) (adjusted-fits t b s l))
-    (rw (read-back {x = atZ t s -ℤ adjusted t s} refl (rest-fits t b s l), read-back (c .before .pre .1 .1 .0) (carried-fits t b s (omega arith)))
+    let at-start = c .before in
+    let t = at-start .args .t1 in
+    let s = at-start .args .s in
+    let b = at-start .pre .0 in
+    let l = at-start .pre .1 .0 in
+    rw (read-back {x = atZ t s} refl (total-fits t b s l), read-back (at-start .pre .1 .1 .1) (adjusted-fits t b s l))
+    (rw (
+      read-back {x = atZ t s -ℤ adjusted t s} refl (rest-fits t b s l),
+      read-back (at-start .pre .1 .1 .0) (carried-fits t b s (omega arith)),
+    )
     (rw carried-step at (carried-fits t b (suc s) l)))
 
 returns : tie.Need-returns
 returns c =
-    let t = c .before .args .t1 in
-    let s = c .before .args .s in
-    let b = c .before .pre .0 in
-    let l = c .before .pre .1 .0 in
+    let at-start = c .before in
+    let t = at-start .args .t1 in
+    let s = at-start .args .s in
+    let b = at-start .pre .0 in
+    let l = at-start .pre .1 .0 in
     let next = sym (carried-step t s) in
-    rw (read-back {x = atZ t s} refl (total-fits t b s l), read-back (c .before .pre .1 .1 .1) (adjusted-fits t b s l))
-    (rw (read-back {x = atZ t s -ℤ adjusted t s} refl (rest-fits t b s l), read-back (c .before .pre .1 .1 .0) (carried-fits t b s (omega arith)), add-one s)
+    rw (read-back {x = atZ t s} refl (total-fits t b s l), read-back (at-start .pre .1 .1 .1) (adjusted-fits t b s l))
+    (rw (
+      read-back {x = atZ t s -ℤ adjusted t s} refl (rest-fits t b s l),
+      read-back (at-start .pre .1 .1 .0) (carried-fits t b s (omega arith)),
+      add-one s,
+    )
     (read-back next (carried-fits t b (suc s) l)))
 
 pub carry-spec : {M : Type 1} → statement M

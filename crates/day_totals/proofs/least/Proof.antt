@@ -35,23 +35,26 @@ locals t s later p =
 
 add-sum : tie.Need-add-sum
 add-sum c =
-    let a = c .before .args in
-    let r = locals (a .t1) (a .s) (a .later) (c .before .pre) in
-    simp (r .own, r .next) (least-sum-fits (a .t1) (c .before .pre .0) (a .s) (c .before .pre .1 .0))
+    let at-start = c .before in
+    let a = at-start .args in
+    let r = locals (a .t1) (a .s) (a .later) (at-start .pre) in
+    simp (r .own, r .next) (least-sum-fits (a .t1) (at-start .pre .0) (a .s) (at-start .pre .1 .0))
 
 returns : tie.Need-returns
 returns c =
-    let a = c .before .before .args in
-    let r = locals (a .t1) (a .s) (a .later) (c .before .before .pre) in
+    let at-start = c .before .before in
+    let a = at-start .args in
+    let r = locals (a .t1) (a .s) (a .later) (at-start .pre) in
     let e : leZ (atZ (a .t1) (a .s)) (sumOf (a .t1) (a .s)) ≡ true = simp (r .own, r .next, r .sum) at (c .if1 .taken) in
-    rw (r .own, least-step (a .t1) (a .s) (c .before .before .pre .1 .0), e)
+    rw (r .own, least-step (a .t1) (a .s) (at-start .pre .1 .0), e)
 
 returns-2 : tie.Need-returns-2
 returns-2 c =
-    let a = c .before .before .args in
-    let r = locals (a .t1) (a .s) (a .later) (c .before .before .pre) in
+    let at-start = c .before .before in
+    let a = at-start .args in
+    let r = locals (a .t1) (a .s) (a .later) (at-start .pre) in
     let e : leZ (atZ (a .t1) (a .s)) (sumOf (a .t1) (a .s)) ≡ false = simp (r .own, r .next, r .sum) at (c .if1 .left) in
-    rw (r .own, r .next, r .sum, least-step (a .t1) (a .s) (c .before .before .pre .1 .0), e)
+    rw (r .own, r .next, r .sum, least-step (a .t1) (a .s) (at-start .pre .1 .0), e)
 
 pub least-spec : {M : Type 1} → statement M
 least-spec = tie.close (tie.spec (λ c. search needs) (λ c. search needs) add-sum returns returns-2)

@@ -10,15 +10,19 @@ use Rattle.day_totals.proofs.owed.Tie as tie
 
 returns : tie.Need-returns
 returns c =
-    let sum = c .before .args .t +ℤ c .before .args .left in
-    let e : leZ (pos 0) sum ≡ true = simp (toZ-ofZ (c .before .fits .t), toZ-ofZ (c .before .fits .left), toZ-ofZ (c .before .pre)) at (c .if1 .taken) in
+    let at-start = c .before in
+    let sum = at-start .args .t +ℤ at-start .args .left in
+    let e : leZ (pos 0) sum ≡ true = simp (toZ-ofZ (at-start .fits .t), toZ-ofZ (at-start .fits .left), toZ-ofZ (at-start .pre)) at (c .if1 .taken) in
     rw e
 
 returns-2 : tie.Need-returns-2
 returns-2 c =
-    let sum = c .before .args .t +ℤ c .before .args .left in
-    let e : leZ (pos 0) sum ≡ false = simp (toZ-ofZ (c .before .fits .t), toZ-ofZ (c .before .fits .left), toZ-ofZ (c .before .pre)) at (c .if1 .left) in
-    rw (toZ-ofZ (c .before .fits .t), toZ-ofZ (c .before .fits .left), toZ-ofZ (c .before .pre), e)
+    let at-start = c .before in
+    let toZ-ofZ₁ = toZ-ofZ (at-start .fits .t) in
+    let toZ-ofZ₂ = toZ-ofZ (at-start .fits .left) in
+    let sum = at-start .args .t +ℤ at-start .args .left in
+    let e : leZ (pos 0) sum ≡ false = simp (toZ-ofZ₁, toZ-ofZ₂, toZ-ofZ (at-start .pre)) at (c .if1 .left) in
+    rw (toZ-ofZ₁, toZ-ofZ₂, toZ-ofZ (at-start .pre), e)
 
 pub owed-spec : {M : Type 1} → statement M
 owed-spec = tie.close (tie.spec (λ c. search needs) returns returns-2)

@@ -1,5 +1,5 @@
 -- Sums of a line's rows.
-use Prim.Native.Nat.{ℕ, _-_, _<_}
+use Prim.Native.Nat.{ℕ, _<_}
 use mathlib.Core.Path.{_≡_, refl, ap}
 use mathlib.Core.List.{List, []}
 use Rattle.rules.specs.Fold.{sumTo, at, five}

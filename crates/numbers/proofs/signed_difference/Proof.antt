@@ -1,6 +1,5 @@
 -- `numbers::signed_difference` meets its contract: the difference of two numbers below 2 ^ 63 is a signed number of 64 bits.
 use borrow.Author.Needs.{needs}
-use mathlib.Core.Path.{_∙_}
 use mir.Syntax.{w64}
 use mir.ValLaws.{toZ-ofZ}
 use Rattle.numbers.proofs.Fitting.{difference-is, difference-fits}

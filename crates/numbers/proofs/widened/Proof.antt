@@ -7,12 +7,10 @@ use Rattle.numbers.proofs.widened.Tie as tie
 
 returns : tie.Need-returns
 returns c =
-    five-is (at (c .before .before .before .before .before .args .t1))
-    (c .before .before .before .before .wide .ensures .0)
-    (c .before .before .before .wide2 .ensures .0)
-    (c .before .before .wide3 .ensures .0)
-    (c .before .wide4 .ensures .0)
-    (c .wide5 .ensures .0)
+    let after-wide = c .before .before .before .before in
+    let at-start = after-wide .before in
+    five-is (at (at-start .args .t1)) (after-wide .wide .ensures .0) (c .before .before .before .wide2 .ensures .0)
+    (c .before .before .wide3 .ensures .0) (c .before .wide4 .ensures .0) (c .wide5 .ensures .0)
 
 pub widened-spec : {M : Type 1} → statement M
 widened-spec =

@@ -42,7 +42,9 @@ leaves-four u d (w ∷ x ∷ y ∷ []) h f = absurd (omega arith)
 leaves-four u d (w ∷ x ∷ y ∷ z ∷ []) h f = rw (f .third, f .second, f .first)
 leaves-four u d (w ∷ x ∷ y ∷ z ∷ v ∷ l) h f = absurd (omega arith)
 
-pub enter-is : (l : Ledger) (b n : ℕ) {u d m₀ m₁ m₂ m₃ : ℕ} → length (l .rises) ≡ 4 → u ≡ n - b → d ≡ b - n → Four d (l .rises) m₀ m₁ m₂ m₃ → _≡_ {A = Matched} (record { matches = m₀ ∷ m₁ ∷ m₂ ∷ m₃ ∷ []; next = record { rises = u ∷ (getD (l .rises) 0 0 - m₀) ∷ (getD (l .rises) 1 0 - m₁) ∷ (getD (l .rises) 2 0 - m₂) ∷ [] } }) (entered l b n)
+pub enter-is : (l : Ledger) (b n : ℕ) {u d m₀ m₁ m₂ m₃ : ℕ} → length (l .rises) ≡ 4 → u ≡ n - b → d ≡ b - n
+    → Four d (l .rises) m₀ m₁ m₂ m₃
+    → _≡_ {A = Matched} (record { matches = m₀ ∷ m₁ ∷ m₂ ∷ m₃ ∷ []; next = record { rises = u ∷ (getD (l .rises) 0 0 - m₀) ∷ (getD (l .rises) 1 0 - m₁) ∷ (getD (l .rises) 2 0 - m₂) ∷ [] } }) (entered l b n)
 unfolding entered
 enter-is l b n {u} {d} h p q f =
     rw (← p, ← q)

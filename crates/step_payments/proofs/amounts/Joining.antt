@@ -7,7 +7,7 @@ use mathlib.Core.Path.{_≡_, sym, _∙_}
 use mathlib.Core.Bool.{cond}
 use mathlib.Core.List.{List}
 use lib.Dec.{eqb}
-use Rattle.rules.specs.Fold.{sumTo, five, at}
+use Rattle.rules.specs.Fold.{sumTo, five}
 use Rattle.rules.specs.Layout.{quantityMost, priceMost}
 use Rattle.rules.specs.Matching.{rise, fall, matched}
 use Rattle.rules.specs.Payments.{onStep, rate, revisedRate, isPaid, initial, revised, modified, matchedAt, givenBack}

@@ -13,7 +13,6 @@ use Rattle.rules.specs.Quantities.{allocated, leastFrom, beyond, msiqFrom, msiq
 use Rattle.rules.specs.Payments.{operatingOn, pricingOn, msiqOn, constrainedOn, onStep, rate, isPaid, initial}
 use Rattle.rules.specs.declared.Step.{Step}
 use Rattle.laws.specs.Folds.{at-five, most-term}
-use Rattle.laws.specs.Ints.{pl}
 use Rattle.numbers.specs.Fives.{five-same}
 use Rattle.step_quantities.specs.Bounds.{least-most, onStep-most}
 use Rattle.step_payments.specs.declared.amounts.Money.{Money}

@@ -1,25 +1,24 @@
 -- A step whose initial payments take nothing back: revised, modified and final payments are the initial ones.
-use Prim.Native.Nat.{ℕ, zero, suc, _+_, _*_, _/_, _≤_, _<_, min, max}
+use Prim.Native.Nat.{ℕ, _+_, _*_, _/_, _<_, min, max}
 use native.Mathlib.Omega.{arith}
 use mathlib.Core.Path.{_≡_, refl, sym, _∙_, ap}
-use mathlib.Core.Bool.{Bool, true, false, cond, not, _&&_}
+use mathlib.Core.Bool.{Bool, true, false, cond, not}
 use mathlib.Core.List.{List}
 use lib.Dec.{eqb, ltb}
 use lib.IntN.{ℤ, pos, negsuc}
 use lib.Signed.{nonNeg}
 use borrow.Author.Tests.{eqb-true, eq-eqb}
 use Rattle.rules.specs.Fold.{five, at, eqbZ, mostTo}
-use Rattle.rules.specs.Matching.{rise, fall}
-use Rattle.rules.specs.Payments.{onStep, bit, initial, initialOr, revised, modified, finalPayment}
+use Rattle.rules.specs.Matching.{fall}
+use Rattle.rules.specs.Payments.{onStep, bit, initial, initialOr, revised, modified}
 use Rattle.rules.specs.declared.Step.{Step}
 use Rattle.laws.specs.Folds.{at-five, most-term}
 use Rattle.laws.specs.Ints.{pl, mi}
 use Rattle.numbers.specs.Fives.{five-same}
-use Rattle.step_payments.specs.declared.amounts.Money.{Money}
-use Rattle.step_payments.specs.Parts.{changeOn, takenBack, final-minus}
+use Rattle.step_payments.specs.Parts.{takenBack, final-minus}
 use Rattle.step_payments.specs.Amounts.{plusOf, minusOf, moneyOf}
 use Rattle.step_pool.specs.declared.pool_amounts.SidePool.{SidePool}
-use Rattle.step_pool.specs.Amounts.{stepPool, differsOn, poolAt, finalOn, allZero, Kept}
+use Rattle.step_pool.specs.Amounts.{differsOn, poolAt, finalOn, allZero, Kept}
 use Rattle.step_pool.proofs.pool_amounts.Settling.{no-taking, final-pays}
 
 -- the greatest of five by four comparisons

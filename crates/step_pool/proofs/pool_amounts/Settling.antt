@@ -89,7 +89,8 @@ paid-fall : (x : Step) (s : ℕ) → 0 < mi (initial x s) → fall (onStep x) s 
 unfolding changeOn
 paid-fall x s h = paid-fall-by (isPaid x s) (mi (initial x s)) (fall (onStep x) s) (rate x s) (initial-minus x s) h
 
-finished : (x : Step) (claw s : ℕ) (p : SidePool) → mi (finalPayment x claw s (poolAt p s)) ≡ cond (eqb s 0) (mi (initial x s)) (takenBack claw (at (x .flag) s) (mi (initial x s)) (mi (revised x s)) (mi (modified x s)) (changeOn fall x s) (totalIn p s) (baseIn p s))
+finished : (x : Step) (claw s : ℕ) (p : SidePool)
+    → mi (finalPayment x claw s (poolAt p s)) ≡ cond (eqb s 0) (mi (initial x s)) (takenBack claw (at (x .flag) s) (mi (initial x s)) (mi (revised x s)) (mi (modified x s)) (changeOn fall x s) (totalIn p s) (baseIn p s))
 unfolding poolAt baseIn
 finished x claw s p =
     final-minus x claw s (poolAt p s)
@@ -108,7 +109,8 @@ pub record Rows (x : Step) (p : SidePool) (i r m d t b : List ℕ) : Type 0 wher
   pub bases : b ≡ five (baseIn p)
 
 -- what final takes back
-final-entry : (x : Step) (claw : ℕ) (p : SidePool) (s : ℕ) → s < 5 → takenIn claw (x .flag) (five (minusOf (initial x))) (five (minusOf (revised x))) (five (minusOf (modified x))) (five (changeOn fall x)) (five (totalIn p)) (five (baseIn p)) s ≡ minusOf (finalOn x claw p) s
+final-entry : (x : Step) (claw : ℕ) (p : SidePool) (s : ℕ) → s < 5
+    → takenIn claw (x .flag) (five (minusOf (initial x))) (five (minusOf (revised x))) (five (minusOf (modified x))) (five (changeOn fall x)) (five (totalIn p)) (five (baseIn p)) s ≡ minusOf (finalOn x claw p) s
 unfolding takenIn minusOf finalOn
 final-entry x claw p s h =
     rw (
@@ -125,7 +127,11 @@ pub final-row : (x : Step) (claw : ℕ) (p : SidePool) {i r m d t b q : List ℕ
 final-row x claw p w e =
     e
     ∙ rw (w .initials, w .reviseds, w .modifieds, w .falls, w .totals, w .bases)
-    (five-same (takenIn claw (x .flag) (five (minusOf (initial x))) (five (minusOf (revised x))) (five (minusOf (modified x))) (five (changeOn fall x)) (five (totalIn p)) (five (baseIn p))) (minusOf (finalOn x claw p)) (final-entry x claw p))
+    (five-same
+    (takenIn claw (x .flag) (five (minusOf (initial x))) (five (minusOf (revised x))) (five (minusOf (modified x))) (five (changeOn fall x))
+    (five (totalIn p)) (five (baseIn p)))
+    (minusOf (finalOn x claw p))
+    (final-entry x claw p))
 
 pub final-pays : (x : Step) (claw : ℕ) (p : SidePool) → five (plusOf (initial x)) ≡ five (plusOf (finalOn x claw p))
 unfolding plusOf finalOn

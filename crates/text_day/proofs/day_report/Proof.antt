@@ -9,7 +9,13 @@ use Rattle.text_day.proofs.day_report.Statement.{statement}
 use Rattle.text_day.proofs.day_report.Tie as tie
 
 returns : tie.Need-returns
-returns c = written-as (day-report-is (now (c .before .before .before .before .before .before .before .before .before .before .args .day)) _ _ _ _ (λ i. omega (arith, c .before .before .before .before .before .before .before .before .before .shared-slice-known .given i)) (omega arith) (c .before .before .before .before .before .before .settle .ensures .0) (c .before .before .before .before .before .before .settle .ensures .1)) (c .before .before .report .ensures)
+returns c =
+    let after-settle = c .before .before .before .before .before .before in
+    let at-start = after-settle .before .before .before .before in
+    let day-report-is′ = day-report-is (now (at-start .args .day)) _ _ _ _
+    (λ i. omega (arith, after-settle .before .before .before .shared-slice-known .given i)) (omega arith)
+    (after-settle .settle .ensures .0) (after-settle .settle .ensures .1) in
+    written-as day-report-is′ (c .before .before .report .ensures)
 
 pub day-report-spec : {M : Type 1} → statement M
 day-report-spec =

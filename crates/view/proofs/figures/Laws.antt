@@ -30,11 +30,45 @@ finals-off x claw p e = five-same (finalOn x claw p) (initial x) (λ s l. off-in
 pub figures-are : (x : Step) (claw : ℕ) (p : SidePool) (w a : ℕ) (o e g q c t : List ℕ) (i r m f : List ℤ)
     → w ≡ x .upper - x .lower → a ≡ actualOn x → o ≡ five (operatingOn x) → e ≡ five (pricingOn x) → g ≡ five (aginoOn x) → q ≡ five (msiqOn x)
     → c ≡ onStep x → t ≡ tenMatches c → i ≡ five (initial x) → r ≡ five (revised x) → m ≡ five (modified x) → f ≡ five (finalOn x claw p)
-    → _≡_ {A = View} (record { number = 0; end = x .upper; width = w; actual = a; price = x .price; flag = x .flag; operating = o; pricing = e; agino = g; msiq = q; constrained = c; matches = t; initial = i; revised = r; modified = m; finals = f }) (viewFrom x claw p)
+    → _≡_ {A = View} (record {
+      number = 0;
+      end = x .upper;
+      width = w;
+      actual = a;
+      price = x .price;
+      flag = x .flag;
+      operating = o;
+      pricing = e;
+      agino = g;
+      msiq = q;
+      constrained = c;
+      matches = t;
+      initial = i;
+      revised = r;
+      modified = m;
+      finals = f;
+    }) (viewFrom x claw p)
 unfolding viewFrom
 figures-are x claw p w a o e g q c t i r m f h1 h2 h3 h4 h5 h6 h7 h8 h9 h10 h11 h12 =
     let h : t ≡ tenMatches (onStep x) = h8 ∙ ap tenMatches h7 in
-    λ z. record { number = 0; end = x .upper; width = h1 z; actual = h2 z; price = x .price; flag = x .flag; operating = h3 z; pricing = h4 z; agino = h5 z; msiq = h6 z; constrained = h7 z; matches = h z; initial = h9 z; revised = h10 z; modified = h11 z; finals = h12 z }
+    λ z. record {
+      number = 0;
+      end = x .upper;
+      width = h1 z;
+      actual = h2 z;
+      price = x .price;
+      flag = x .flag;
+      operating = h3 z;
+      pricing = h4 z;
+      agino = h5 z;
+      msiq = h6 z;
+      constrained = h7 z;
+      matches = h z;
+      initial = h9 z;
+      revised = h10 z;
+      modified = h11 z;
+      finals = h12 z;
+    }
 
 -- the end before step j in the cutter's answer
 cut-lower : (w : List ℕ) (j : ℕ) → getD (0 ∷ cutOf w .ends) j 0 ≡ lowerEnd w j

@@ -1,59 +1,184 @@
 -- `view::view` meets its contract.
-use mathlib.Core.Path.{refl, sym, _∙_}
+use Prim.Native.Nat.{_≤_, _<_}
+use mathlib.Core.Path.{_≡_, refl, sym, _∙_}
 use denote.Ref.{now}
 use native.Mathlib.Omega.{arith}
 use borrow.Author.Needs.{needs}
-use Rattle.laws.specs.Accepted.{accepted-day}
+use Rattle.rules.specs.Layout.{lineCount}
+use Rattle.rules.specs.Payments.{stepOf}
+use Rattle.laws.specs.Accepted.{AcceptedDay, accepted-day}
 use Rattle.day_pools.proofs.Laws.{line-lies, lent-length, lent-accepted, lent-line, count-is, count-few, step-built, step-sized, step-payable, market-claw}
 use Rattle.view.specs.Figures.{view-refused, fault-day, fault-line, fault-step, view-whole}
 use Rattle.view.proofs.figures.Laws.{lower-is, pool-there, figures-there}
 use Rattle.view.proofs.view.Statement.{statement}
 use Rattle.view.proofs.view.Tie as tie
 
+-- where the day's number is 0
+accepted : (c : tie.Else1) → AcceptedDay (now (c .before .before .before .args .day))
+accepted c = accepted-day (now (c .before .before .before .args .day)) (sym (c .before .day-number .ensures) ∙ c .if1 .left)
+
+-- where the day has the line
+below : (c : tie.Else2) → c .before .before .before .before .before .args .line < lineCount (now (c .before .before .before .before .before .args .day))
+below c = omega (arith, c .before .line-count .ensures, c .if2 .left)
+
+-- the line has at most 56 steps
+few-steps : (c : tie.Else3) → c .before .before .steps .result .count ≤ 56
+few-steps c =
+    let in-else2 = c .before .before .before .before in
+    let at-start = in-else2 .before .before .before .before .before in
+    count-few (now (at-start .args .day)) (accepted (in-else2 .before .before)) (at-start .args .line) (below in-else2) _
+    (c .before .before .before .line-of .ensures) _ (c .before .before .steps .ensures)
+
+-- where the line has the step
+few : (c : tie.Else3) → c .before .before .before .before .before .before .before .before .before .args .step < 56
+few c = omega (arith, few-steps c, c .if3 .left)
+
+-- the step is put together
+built : (c : tie.After-step-of)
+    → let at-start = c .before .before .before .before .before .before .before .before .before .before .before .before .before .before .before .before .before .before .before .before in
+    c .step-of .result ≡ stepOf (now (at-start .args .day)) (at-start .args .line) (at-start .args .step)
+built c =
+    let after-lower-end = c .before .before .before .before in
+    let after-market-of = after-lower-end .before .before .before in
+    let in-else3 = after-market-of .before .before .before .before in
+    let after-steps = in-else3 .before .before in
+    let in-else2 = after-steps .before .before in
+    let at-start = in-else2 .before .before .before .before .before in
+    let day = now (at-start .args .day) in
+    let line = at-start .args .line in
+    let step = at-start .args .step in
+    let line-of-ensures = after-steps .before .line-of .ensures in
+    let lower-is′ = lower-is day _ line step _ _ line-of-ensures (after-steps .steps .ensures)
+    (after-lower-end .lower-end .ensures) in
+    step-built day (accepted (in-else2 .before .before)) line (below in-else2) _ line-of-ensures _ (after-steps .steps .ensures) step
+    (in-else3 .if3 .left) _ _ _ _ _ _ _ (after-market-of .market-of .ensures)
+    (after-lower-end .before .before .totals-of .ensures) lower-is′ refl (c .before .before .price-row .ensures)
+    (c .before .flag-row .ensures) (c .step-of .ensures)
+
 returns : tie.Need-returns
-returns c = view-refused (now (c .before .before .before .before .args .day)) (c .before .before .before .before .args .line) (c .before .before .before .before .args .step) _ (c .before .before .day-number .ensures) _ _ (c .refused .ensures) (fault-day (now (c .before .before .before .before .args .day)) (c .before .before .before .before .args .line) (c .before .before .before .before .args .step) _ (c .before .before .day-number .ensures) (c .before .if1 .taken)) (c .before .if1 .taken)
+returns c =
+    let in-then1 = c .before in
+    let after-day-number = in-then1 .before in
+    let at-start = after-day-number .before .before in
+    let day = now (at-start .args .day) in
+    let line = at-start .args .line in
+    let step = at-start .args .step in
+    let fault-day′ = fault-day day line step _ (after-day-number .day-number .ensures) (in-then1 .if1 .taken) in
+    view-refused day line step _ (after-day-number .day-number .ensures) _ _ (c .refused .ensures) fault-day′
+    (in-then1 .if1 .taken)
 
 line-count-requires : tie.Need-line-count-requires
-line-count-requires c κs = omega (arith, (accepted-day (now (c .before .before .before .args .day)) (sym (c .before .day-number .ensures) ∙ c .if1 .left)) .header .length-least)
+line-count-requires c κs = omega (arith, accepted c .header .length-least)
 
 returns-2 : tie.Need-returns-2
-returns-2 c = view-refused (now (c .before .before .before .before .before .before .args .day)) (c .before .before .before .before .before .before .args .line) (c .before .before .before .before .before .before .args .step) _ (c .before .before .before .before .day-number .ensures) _ 16 (c .refused2 .ensures) (fault-line (now (c .before .before .before .before .before .before .args .day)) (c .before .before .before .before .before .before .args .line) (c .before .before .before .before .before .before .args .step) _ (c .before .before .before .before .day-number .ensures) (c .before .before .before .if1 .left) _ (c .before .before .line-count .ensures) (c .before .if2 .taken)) (λ e. omega arith)
+returns-2 c =
+    let after-day-number = c .before .before .before .before in
+    let at-start = after-day-number .before .before in
+    let day = now (at-start .args .day) in
+    let line = at-start .args .line in
+    let step = at-start .args .step in
+    let fault-line′ = fault-line day line step _ (after-day-number .day-number .ensures)
+    (c .before .before .before .if1 .left) _ (c .before .before .line-count .ensures) (c .before .if2 .taken) in
+    view-refused day line step _ (after-day-number .day-number .ensures) _ 16 (c .refused2 .ensures) fault-line′
+    (λ e. omega arith)
 
 line-of-requires : tie.Need-line-of-requires
-line-of-requires c κs = line-lies (now (c .before .before .before .before .before .args .day)) (accepted-day (now (c .before .before .before .before .before .args .day)) (sym (c .before .before .before .day-number .ensures) ∙ c .before .before .if1 .left)) (c .before .before .before .before .before .args .line) (omega (arith, c .before .line-count .ensures, c .if2 .left))
+line-of-requires c κs =
+    let at-start = c .before .before .before .before .before in
+    line-lies (now (at-start .args .day)) (accepted (c .before .before)) (at-start .args .line) (below c)
 
 steps-requires : tie.Need-steps-requires
-steps-requires c κs = lent-line (now (c .before .before .before .before .before .before .args .day)) (accepted-day (now (c .before .before .before .before .before .before .args .day)) (sym (c .before .before .before .before .day-number .ensures) ∙ c .before .before .before .if1 .left)) (c .before .before .before .before .before .before .args .line) (omega (arith, c .before .before .line-count .ensures, c .before .if2 .left)) _ (c .line-of .ensures)
+steps-requires c κs =
+    let at-start = c .before .before .before .before .before .before in
+    lent-line (now (at-start .args .day)) (accepted (c .before .before .before)) (at-start .args .line) (below (c .before)) _
+    (c .line-of .ensures)
 
 returns-3 : tie.Need-returns-3
-returns-3 c = view-refused (now (c .before .before .before .before .before .before .before .before .before .before .args .day)) (c .before .before .before .before .before .before .before .before .before .before .args .line) (c .before .before .before .before .before .before .before .before .before .before .args .step) _ (c .before .before .before .before .before .before .before .before .day-number .ensures) _ 17 (c .refused3 .ensures) (fault-step (now (c .before .before .before .before .before .before .before .before .before .before .args .day)) (c .before .before .before .before .before .before .before .before .before .before .args .line) (c .before .before .before .before .before .before .before .before .before .before .args .step) _ (c .before .before .before .before .before .before .before .before .day-number .ensures) (c .before .before .before .before .before .before .before .if1 .left) (omega (arith, c .before .before .before .before .before .before .line-count .ensures, c .before .before .before .before .before .if2 .left)) _ (count-is (now (c .before .before .before .before .before .before .before .before .before .before .args .day)) (accepted-day (now (c .before .before .before .before .before .before .before .before .before .before .args .day)) (sym (c .before .before .before .before .before .before .before .before .day-number .ensures) ∙ c .before .before .before .before .before .before .before .if1 .left)) (c .before .before .before .before .before .before .before .before .before .before .args .line) (omega (arith, c .before .before .before .before .before .before .line-count .ensures, c .before .before .before .before .before .if2 .left)) _ (c .before .before .before .before .line-of .ensures) _ (c .before .before .before .steps .ensures)) (c .before .if3 .taken)) (λ e. omega arith)
+returns-3 c =
+    let after-line-of = c .before .before .before .before in
+    let in-else2 = after-line-of .before in
+    let in-else1 = in-else2 .before .before in
+    let at-start = in-else1 .before .before .before in
+    let day = now (at-start .args .day) in
+    let line = at-start .args .line in
+    let step = at-start .args .step in
+    let day-number-ensures = in-else1 .before .day-number .ensures in
+    let count-is′ = count-is day (accepted in-else1) line (below in-else2) _ (after-line-of .line-of .ensures) _
+    (c .before .before .before .steps .ensures) in
+    let fault-step′ = fault-step day line step _ day-number-ensures (in-else1 .if1 .left) (below in-else2) _ count-is′
+    (c .before .if3 .taken) in
+    view-refused day line step _ day-number-ensures _ 17 (c .refused3 .ensures) fault-step′ (λ e. omega arith)
 
 market-of-requires : tie.Need-market-of-requires
-market-of-requires c κs = omega (arith, (accepted-day (now (c .before .before .before .before .before .before .before .before .before .before .before .before .args .day)) (sym (c .before .before .before .before .before .before .before .before .before .before .day-number .ensures) ∙ c .before .before .before .before .before .before .before .before .before .if1 .left)) .header .length-least)
+market-of-requires c κs = omega (arith, accepted (c .before .before .before .before .before .before .before .before .before) .header .length-least)
 
 totals-of-requires : tie.Need-totals-of-requires
-totals-of-requires c κs = (lent-length (now (c .before .before .before .before .before .before .before .before .before .before .before .before .before .args .day)) (accepted-day (now (c .before .before .before .before .before .before .before .before .before .before .before .before .before .args .day)) (sym (c .before .before .before .before .before .before .before .before .before .before .before .day-number .ensures) ∙ c .before .before .before .before .before .before .before .before .before .before .if1 .left)) (c .before .before .before .before .before .before .before .before .before .before .before .before .before .args .line) (omega (arith, c .before .before .before .before .before .before .before .before .before .line-count .ensures, c .before .before .before .before .before .before .before .before .if2 .left)) _ (c .before .before .before .before .before .before .before .line-of .ensures), lent-accepted (now (c .before .before .before .before .before .before .before .before .before .before .before .before .before .args .day)) (accepted-day (now (c .before .before .before .before .before .before .before .before .before .before .before .before .before .args .day)) (sym (c .before .before .before .before .before .before .before .before .before .before .before .day-number .ensures) ∙ c .before .before .before .before .before .before .before .before .before .before .if1 .left)) (c .before .before .before .before .before .before .before .before .before .before .before .before .before .args .line) (omega (arith, c .before .before .before .before .before .before .before .before .before .line-count .ensures, c .before .before .before .before .before .before .before .before .if2 .left)) _ (c .before .before .before .before .before .before .before .line-of .ensures))
+totals-of-requires c κs =
+    let after-line-of = c .before .before .before .before .before .before .before in
+    let in-else2 = after-line-of .before in
+    let at-start = in-else2 .before .before .before .before .before in
+    let day = now (at-start .args .day) in
+    let line = at-start .args .line in (
+      lent-length day (accepted (in-else2 .before .before)) line (below in-else2) _ (after-line-of .line-of .ensures),
+      lent-accepted day (accepted (in-else2 .before .before)) line (below in-else2) _ (after-line-of .line-of .ensures),
+    )
 
 lower-end-requires : tie.Need-lower-end-requires
-lower-end-requires c κs = omega (arith, count-few (now (c .before .before .before .before .before .before .before .before .before .before .before .before .before .before .before .args .day)) (accepted-day (now (c .before .before .before .before .before .before .before .before .before .before .before .before .before .before .before .args .day)) (sym (c .before .before .before .before .before .before .before .before .before .before .before .before .before .day-number .ensures) ∙ c .before .before .before .before .before .before .before .before .before .before .before .before .if1 .left)) (c .before .before .before .before .before .before .before .before .before .before .before .before .before .before .before .args .line) (omega (arith, c .before .before .before .before .before .before .before .before .before .before .before .line-count .ensures, c .before .before .before .before .before .before .before .before .before .before .if2 .left)) _ (c .before .before .before .before .before .before .before .before .before .line-of .ensures) _ (c .before .before .before .before .before .before .before .before .steps .ensures), c .before .before .before .before .before .before .if3 .left)
+lower-end-requires c κs = few (c .before .before .before .before .before .before)
 
 array-read-step-of : tie.Need-array-read-step-of
-array-read-step-of c = omega (arith, count-few (now (c .before .before .before .before .before .before .before .before .before .before .before .before .before .before .before .before .args .day)) (accepted-day (now (c .before .before .before .before .before .before .before .before .before .before .before .before .before .before .before .before .args .day)) (sym (c .before .before .before .before .before .before .before .before .before .before .before .before .before .before .day-number .ensures) ∙ c .before .before .before .before .before .before .before .before .before .before .before .before .before .if1 .left)) (c .before .before .before .before .before .before .before .before .before .before .before .before .before .before .before .before .args .line) (omega (arith, c .before .before .before .before .before .before .before .before .before .before .before .before .line-count .ensures, c .before .before .before .before .before .before .before .before .before .before .before .if2 .left)) _ (c .before .before .before .before .before .before .before .before .before .before .line-of .ensures) _ (c .before .before .before .before .before .before .before .before .before .steps .ensures), c .before .before .before .before .before .before .before .if3 .left)
+array-read-step-of c = omega (arith, few (c .before .before .before .before .before .before .before))
 
 price-row-requires : tie.Need-price-row-requires
-price-row-requires c κs = omega (arith, count-few (now (c .before .before .before .before .before .before .before .before .before .before .before .before .before .before .before .before .before .args .day)) (accepted-day (now (c .before .before .before .before .before .before .before .before .before .before .before .before .before .before .before .before .before .args .day)) (sym (c .before .before .before .before .before .before .before .before .before .before .before .before .before .before .before .day-number .ensures) ∙ c .before .before .before .before .before .before .before .before .before .before .before .before .before .before .if1 .left)) (c .before .before .before .before .before .before .before .before .before .before .before .before .before .before .before .before .before .args .line) (omega (arith, c .before .before .before .before .before .before .before .before .before .before .before .before .before .line-count .ensures, c .before .before .before .before .before .before .before .before .before .before .before .before .if2 .left)) _ (c .before .before .before .before .before .before .before .before .before .before .before .line-of .ensures) _ (c .before .before .before .before .before .before .before .before .before .before .steps .ensures), c .before .before .before .before .before .before .before .before .if3 .left)
+price-row-requires c κs = few (c .before .before .before .before .before .before .before .before)
 
 flag-row-requires : tie.Need-flag-row-requires
-flag-row-requires c κs = omega (arith, count-few (now (c .before .before .before .before .before .before .before .before .before .before .before .before .before .before .before .before .before .before .args .day)) (accepted-day (now (c .before .before .before .before .before .before .before .before .before .before .before .before .before .before .before .before .before .before .args .day)) (sym (c .before .before .before .before .before .before .before .before .before .before .before .before .before .before .before .before .day-number .ensures) ∙ c .before .before .before .before .before .before .before .before .before .before .before .before .before .before .before .if1 .left)) (c .before .before .before .before .before .before .before .before .before .before .before .before .before .before .before .before .before .before .args .line) (omega (arith, c .before .before .before .before .before .before .before .before .before .before .before .before .before .before .line-count .ensures, c .before .before .before .before .before .before .before .before .before .before .before .before .before .if2 .left)) _ (c .before .before .before .before .before .before .before .before .before .before .before .before .line-of .ensures) _ (c .before .before .before .before .before .before .before .before .before .before .before .steps .ensures), c .before .before .before .before .before .before .before .before .before .if3 .left)
+flag-row-requires c κs = few (c .before .before .before .before .before .before .before .before .before)
 
 pool-for-requires : tie.Need-pool-for-requires
-pool-for-requires c κs = ((accepted-day (now (c .before .before .before .before .before .before .before .before .before .before .before .before .before .before .before .before .before .before .before .before .args .day)) (sym (c .before .before .before .before .before .before .before .before .before .before .before .before .before .before .before .before .before .before .day-number .ensures) ∙ c .before .before .before .before .before .before .before .before .before .before .before .before .before .before .before .before .before .if1 .left)), c .before .before .before .before .before .before .before .market-of .ensures)
+pool-for-requires c κs =
+    let after-market-of = c .before .before .before .before .before .before .before in
+    (accepted (after-market-of .before .before .before .before .before .before .before .before .before .before), after-market-of .market-of .ensures)
 
 figures-requires : tie.Need-figures-requires
-figures-requires c κs = (step-sized (now (c .before .before .before .before .before .before .before .before .before .before .before .before .before .before .before .before .before .before .before .before .before .args .day)) (accepted-day (now (c .before .before .before .before .before .before .before .before .before .before .before .before .before .before .before .before .before .before .before .before .before .args .day)) (sym (c .before .before .before .before .before .before .before .before .before .before .before .before .before .before .before .before .before .before .before .day-number .ensures) ∙ c .before .before .before .before .before .before .before .before .before .before .before .before .before .before .before .before .before .before .if1 .left)) (c .before .before .before .before .before .before .before .before .before .before .before .before .before .before .before .before .before .before .before .before .before .args .line) (omega (arith, c .before .before .before .before .before .before .before .before .before .before .before .before .before .before .before .before .before .line-count .ensures, c .before .before .before .before .before .before .before .before .before .before .before .before .before .before .before .before .if2 .left)) _ (c .before .before .before .before .before .before .before .before .before .before .before .before .before .before .before .line-of .ensures) _ (c .before .before .before .before .before .before .before .before .before .before .before .before .before .before .steps .ensures) (c .before .before .before .before .before .before .before .before .before .before .before .before .before .before .before .before .before .before .before .before .before .args .step) (c .before .before .before .before .before .before .before .before .before .before .before .before .if3 .left) _ (step-built (now (c .before .before .before .before .before .before .before .before .before .before .before .before .before .before .before .before .before .before .before .before .before .args .day)) (accepted-day (now (c .before .before .before .before .before .before .before .before .before .before .before .before .before .before .before .before .before .before .before .before .before .args .day)) (sym (c .before .before .before .before .before .before .before .before .before .before .before .before .before .before .before .before .before .before .before .day-number .ensures) ∙ c .before .before .before .before .before .before .before .before .before .before .before .before .before .before .before .before .before .before .if1 .left)) (c .before .before .before .before .before .before .before .before .before .before .before .before .before .before .before .before .before .before .before .before .before .args .line) (omega (arith, c .before .before .before .before .before .before .before .before .before .before .before .before .before .before .before .before .before .line-count .ensures, c .before .before .before .before .before .before .before .before .before .before .before .before .before .before .before .before .if2 .left)) _ (c .before .before .before .before .before .before .before .before .before .before .before .before .before .before .before .line-of .ensures) _ (c .before .before .before .before .before .before .before .before .before .before .before .before .before .before .steps .ensures) (c .before .before .before .before .before .before .before .before .before .before .before .before .before .before .before .before .before .before .before .before .before .args .step) (c .before .before .before .before .before .before .before .before .before .before .before .before .if3 .left) _ _ _ _ _ _ _ (c .before .before .before .before .before .before .before .before .market-of .ensures) (c .before .before .before .before .before .before .before .totals-of .ensures) (lower-is (now (c .before .before .before .before .before .before .before .before .before .before .before .before .before .before .before .before .before .before .before .before .before .args .day)) _ (c .before .before .before .before .before .before .before .before .before .before .before .before .before .before .before .before .before .before .before .before .before .args .line) (c .before .before .before .before .before .before .before .before .before .before .before .before .before .before .before .before .before .before .before .before .before .args .step) _ _ (c .before .before .before .before .before .before .before .before .before .before .before .before .before .before .before .line-of .ensures) (c .before .before .before .before .before .before .before .before .before .before .before .before .before .before .steps .ensures) (c .before .before .before .before .before .lower-end .ensures)) refl (c .before .before .before .price-row .ensures) (c .before .before .flag-row .ensures) (c .before .step-of .ensures)), step-payable (now (c .before .before .before .before .before .before .before .before .before .before .before .before .before .before .before .before .before .before .before .before .before .args .day)) (accepted-day (now (c .before .before .before .before .before .before .before .before .before .before .before .before .before .before .before .before .before .before .before .before .before .args .day)) (sym (c .before .before .before .before .before .before .before .before .before .before .before .before .before .before .before .before .before .before .before .day-number .ensures) ∙ c .before .before .before .before .before .before .before .before .before .before .before .before .before .before .before .before .before .before .if1 .left)) (c .before .before .before .before .before .before .before .before .before .before .before .before .before .before .before .before .before .before .before .before .before .args .line) (omega (arith, c .before .before .before .before .before .before .before .before .before .before .before .before .before .before .before .before .before .line-count .ensures, c .before .before .before .before .before .before .before .before .before .before .before .before .before .before .before .before .if2 .left)) _ (c .before .before .before .before .before .before .before .before .before .before .before .before .before .before .before .line-of .ensures) _ (c .before .before .before .before .before .before .before .before .before .before .before .before .before .before .steps .ensures) (c .before .before .before .before .before .before .before .before .before .before .before .before .before .before .before .before .before .before .before .before .before .args .step) (c .before .before .before .before .before .before .before .before .before .before .before .before .if3 .left) _ (pool-there (now (c .before .before .before .before .before .before .before .before .before .before .before .before .before .before .before .before .before .before .before .before .before .args .day)) (c .before .before .before .before .before .before .before .before .before .before .before .before .before .before .before .before .before .before .before .before .before .args .line) (c .before .before .before .before .before .before .before .before .before .before .before .before .before .before .before .before .before .before .before .before .before .args .step) _ _ (step-built (now (c .before .before .before .before .before .before .before .before .before .before .before .before .before .before .before .before .before .before .before .before .before .args .day)) (accepted-day (now (c .before .before .before .before .before .before .before .before .before .before .before .before .before .before .before .before .before .before .before .before .before .args .day)) (sym (c .before .before .before .before .before .before .before .before .before .before .before .before .before .before .before .before .before .before .before .day-number .ensures) ∙ c .before .before .before .before .before .before .before .before .before .before .before .before .before .before .before .before .before .before .if1 .left)) (c .before .before .before .before .before .before .before .before .before .before .before .before .before .before .before .before .before .before .before .before .before .args .line) (omega (arith, c .before .before .before .before .before .before .before .before .before .before .before .before .before .before .before .before .before .line-count .ensures, c .before .before .before .before .before .before .before .before .before .before .before .before .before .before .before .before .if2 .left)) _ (c .before .before .before .before .before .before .before .before .before .before .before .before .before .before .before .line-of .ensures) _ (c .before .before .before .before .before .before .before .before .before .before .before .before .before .before .steps .ensures) (c .before .before .before .before .before .before .before .before .before .before .before .before .before .before .before .before .before .before .before .before .before .args .step) (c .before .before .before .before .before .before .before .before .before .before .before .before .if3 .left) _ _ _ _ _ _ _ (c .before .before .before .before .before .before .before .before .market-of .ensures) (c .before .before .before .before .before .before .before .totals-of .ensures) (lower-is (now (c .before .before .before .before .before .before .before .before .before .before .before .before .before .before .before .before .before .before .before .before .before .args .day)) _ (c .before .before .before .before .before .before .before .before .before .before .before .before .before .before .before .before .before .before .before .before .before .args .line) (c .before .before .before .before .before .before .before .before .before .before .before .before .before .before .before .before .before .before .before .before .before .args .step) _ _ (c .before .before .before .before .before .before .before .before .before .before .before .before .before .before .before .line-of .ensures) (c .before .before .before .before .before .before .before .before .before .before .before .before .before .before .steps .ensures) (c .before .before .before .before .before .lower-end .ensures)) refl (c .before .before .before .price-row .ensures) (c .before .before .flag-row .ensures) (c .before .step-of .ensures)) (c .pool-for .ensures)) _ (market-claw (now (c .before .before .before .before .before .before .before .before .before .before .before .before .before .before .before .before .before .before .before .before .before .args .day)) _ (c .before .before .before .before .before .before .before .before .market-of .ensures)) _ (step-built (now (c .before .before .before .before .before .before .before .before .before .before .before .before .before .before .before .before .before .before .before .before .before .args .day)) (accepted-day (now (c .before .before .before .before .before .before .before .before .before .before .before .before .before .before .before .before .before .before .before .before .before .args .day)) (sym (c .before .before .before .before .before .before .before .before .before .before .before .before .before .before .before .before .before .before .before .day-number .ensures) ∙ c .before .before .before .before .before .before .before .before .before .before .before .before .before .before .before .before .before .before .if1 .left)) (c .before .before .before .before .before .before .before .before .before .before .before .before .before .before .before .before .before .before .before .before .before .args .line) (omega (arith, c .before .before .before .before .before .before .before .before .before .before .before .before .before .before .before .before .before .line-count .ensures, c .before .before .before .before .before .before .before .before .before .before .before .before .before .before .before .before .if2 .left)) _ (c .before .before .before .before .before .before .before .before .before .before .before .before .before .before .before .line-of .ensures) _ (c .before .before .before .before .before .before .before .before .before .before .before .before .before .before .steps .ensures) (c .before .before .before .before .before .before .before .before .before .before .before .before .before .before .before .before .before .before .before .before .before .args .step) (c .before .before .before .before .before .before .before .before .before .before .before .before .if3 .left) _ _ _ _ _ _ _ (c .before .before .before .before .before .before .before .before .market-of .ensures) (c .before .before .before .before .before .before .before .totals-of .ensures) (lower-is (now (c .before .before .before .before .before .before .before .before .before .before .before .before .before .before .before .before .before .before .before .before .before .args .day)) _ (c .before .before .before .before .before .before .before .before .before .before .before .before .before .before .before .before .before .before .before .before .before .args .line) (c .before .before .before .before .before .before .before .before .before .before .before .before .before .before .before .before .before .before .before .before .before .args .step) _ _ (c .before .before .before .before .before .before .before .before .before .before .before .before .before .before .before .line-of .ensures) (c .before .before .before .before .before .before .before .before .before .before .before .before .before .before .steps .ensures) (c .before .before .before .before .before .lower-end .ensures)) refl (c .before .before .before .price-row .ensures) (c .before .before .flag-row .ensures) (c .before .step-of .ensures)))
+figures-requires c κs =
+    let after-market-of = c .before .before .before .before .before .before .before .before in
+    let in-else3 = after-market-of .before .before .before .before in
+    let after-steps = in-else3 .before .before in
+    let in-else2 = after-steps .before .before in
+    let at-start = in-else2 .before .before .before .before .before in
+    let day = now (at-start .args .day) in
+    let line = at-start .args .line in
+    let step = at-start .args .step in
+    let line-of-ensures = after-steps .before .line-of .ensures in
+    let step-sized′ = step-sized day (accepted (in-else2 .before .before)) line (below in-else2) _ line-of-ensures _
+    (after-steps .steps .ensures) step (in-else3 .if3 .left) _ (built (c .before)) in
+    let step-payable′ = step-payable day (accepted (in-else2 .before .before)) line (below in-else2) _ line-of-ensures _
+    (after-steps .steps .ensures) step (in-else3 .if3 .left) _
+    (pool-there day line step _ _ (built (c .before)) (c .pool-for .ensures)) _
+    (market-claw day _ (after-market-of .market-of .ensures)) _ (built (c .before)) in
+    (step-sized′, step-payable′)
 
 returns-4 : tie.Need-returns-4
-returns-4 c = view-whole (now (c .before .before .before .before .before .before .before .before .before .before .before .before .before .before .before .before .before .before .before .before .before .before .args .day)) (c .before .before .before .before .before .before .before .before .before .before .before .before .before .before .before .before .before .before .before .before .before .before .args .line) (c .before .before .before .before .before .before .before .before .before .before .before .before .before .before .before .before .before .before .before .before .before .before .args .step) _ (c .before .before .before .before .before .before .before .before .before .before .before .before .before .before .before .before .before .before .before .before .day-number .ensures) (c .before .before .before .before .before .before .before .before .before .before .before .before .before .before .before .before .before .before .before .if1 .left) (omega (arith, c .before .before .before .before .before .before .before .before .before .before .before .before .before .before .before .before .before .before .line-count .ensures, c .before .before .before .before .before .before .before .before .before .before .before .before .before .before .before .before .before .if2 .left)) _ (figures-there (now (c .before .before .before .before .before .before .before .before .before .before .before .before .before .before .before .before .before .before .before .before .before .before .args .day)) (c .before .before .before .before .before .before .before .before .before .before .before .before .before .before .before .before .before .before .before .before .before .before .args .line) (c .before .before .before .before .before .before .before .before .before .before .before .before .before .before .before .before .before .before .before .before .before .before .args .step) _ _ _ _ (step-built (now (c .before .before .before .before .before .before .before .before .before .before .before .before .before .before .before .before .before .before .before .before .before .before .args .day)) (accepted-day (now (c .before .before .before .before .before .before .before .before .before .before .before .before .before .before .before .before .before .before .before .before .before .before .args .day)) (sym (c .before .before .before .before .before .before .before .before .before .before .before .before .before .before .before .before .before .before .before .before .day-number .ensures) ∙ c .before .before .before .before .before .before .before .before .before .before .before .before .before .before .before .before .before .before .before .if1 .left)) (c .before .before .before .before .before .before .before .before .before .before .before .before .before .before .before .before .before .before .before .before .before .before .args .line) (omega (arith, c .before .before .before .before .before .before .before .before .before .before .before .before .before .before .before .before .before .before .line-count .ensures, c .before .before .before .before .before .before .before .before .before .before .before .before .before .before .before .before .before .if2 .left)) _ (c .before .before .before .before .before .before .before .before .before .before .before .before .before .before .before .before .line-of .ensures) _ (c .before .before .before .before .before .before .before .before .before .before .before .before .before .before .before .steps .ensures) (c .before .before .before .before .before .before .before .before .before .before .before .before .before .before .before .before .before .before .before .before .before .before .args .step) (c .before .before .before .before .before .before .before .before .before .before .before .before .before .if3 .left) _ _ _ _ _ _ _ (c .before .before .before .before .before .before .before .before .before .market-of .ensures) (c .before .before .before .before .before .before .before .before .totals-of .ensures) (lower-is (now (c .before .before .before .before .before .before .before .before .before .before .before .before .before .before .before .before .before .before .before .before .before .before .args .day)) _ (c .before .before .before .before .before .before .before .before .before .before .before .before .before .before .before .before .before .before .before .before .before .before .args .line) (c .before .before .before .before .before .before .before .before .before .before .before .before .before .before .before .before .before .before .before .before .before .before .args .step) _ _ (c .before .before .before .before .before .before .before .before .before .before .before .before .before .before .before .before .line-of .ensures) (c .before .before .before .before .before .before .before .before .before .before .before .before .before .before .before .steps .ensures) (c .before .before .before .before .before .before .lower-end .ensures)) refl (c .before .before .before .before .price-row .ensures) (c .before .before .before .flag-row .ensures) (c .before .before .step-of .ensures)) (market-claw (now (c .before .before .before .before .before .before .before .before .before .before .before .before .before .before .before .before .before .before .before .before .before .before .args .day)) _ (c .before .before .before .before .before .before .before .before .before .market-of .ensures)) (pool-there (now (c .before .before .before .before .before .before .before .before .before .before .before .before .before .before .before .before .before .before .before .before .before .before .args .day)) (c .before .before .before .before .before .before .before .before .before .before .before .before .before .before .before .before .before .before .before .before .before .before .args .line) (c .before .before .before .before .before .before .before .before .before .before .before .before .before .before .before .before .before .before .before .before .before .before .args .step) _ _ (step-built (now (c .before .before .before .before .before .before .before .before .before .before .before .before .before .before .before .before .before .before .before .before .before .before .args .day)) (accepted-day (now (c .before .before .before .before .before .before .before .before .before .before .before .before .before .before .before .before .before .before .before .before .before .before .args .day)) (sym (c .before .before .before .before .before .before .before .before .before .before .before .before .before .before .before .before .before .before .before .before .day-number .ensures) ∙ c .before .before .before .before .before .before .before .before .before .before .before .before .before .before .before .before .before .before .before .if1 .left)) (c .before .before .before .before .before .before .before .before .before .before .before .before .before .before .before .before .before .before .before .before .before .before .args .line) (omega (arith, c .before .before .before .before .before .before .before .before .before .before .before .before .before .before .before .before .before .before .line-count .ensures, c .before .before .before .before .before .before .before .before .before .before .before .before .before .before .before .before .before .if2 .left)) _ (c .before .before .before .before .before .before .before .before .before .before .before .before .before .before .before .before .line-of .ensures) _ (c .before .before .before .before .before .before .before .before .before .before .before .before .before .before .before .steps .ensures) (c .before .before .before .before .before .before .before .before .before .before .before .before .before .before .before .before .before .before .before .before .before .before .args .step) (c .before .before .before .before .before .before .before .before .before .before .before .before .before .if3 .left) _ _ _ _ _ _ _ (c .before .before .before .before .before .before .before .before .before .market-of .ensures) (c .before .before .before .before .before .before .before .before .totals-of .ensures) (lower-is (now (c .before .before .before .before .before .before .before .before .before .before .before .before .before .before .before .before .before .before .before .before .before .before .args .day)) _ (c .before .before .before .before .before .before .before .before .before .before .before .before .before .before .before .before .before .before .before .before .before .before .args .line) (c .before .before .before .before .before .before .before .before .before .before .before .before .before .before .before .before .before .before .before .before .before .before .args .step) _ _ (c .before .before .before .before .before .before .before .before .before .before .before .before .before .before .before .before .line-of .ensures) (c .before .before .before .before .before .before .before .before .before .before .before .before .before .before .before .steps .ensures) (c .before .before .before .before .before .before .lower-end .ensures)) refl (c .before .before .before .before .price-row .ensures) (c .before .before .before .flag-row .ensures) (c .before .before .step-of .ensures)) (c .before .pool-for .ensures)) (c .figures .ensures)) (omega (arith, count-is (now (c .before .before .before .before .before .before .before .before .before .before .before .before .before .before .before .before .before .before .before .before .before .before .args .day)) (accepted-day (now (c .before .before .before .before .before .before .before .before .before .before .before .before .before .before .before .before .before .before .before .before .before .before .args .day)) (sym (c .before .before .before .before .before .before .before .before .before .before .before .before .before .before .before .before .before .before .before .before .day-number .ensures) ∙ c .before .before .before .before .before .before .before .before .before .before .before .before .before .before .before .before .before .before .before .if1 .left)) (c .before .before .before .before .before .before .before .before .before .before .before .before .before .before .before .before .before .before .before .before .before .before .args .line) (omega (arith, c .before .before .before .before .before .before .before .before .before .before .before .before .before .before .before .before .before .before .line-count .ensures, c .before .before .before .before .before .before .before .before .before .before .before .before .before .before .before .before .before .if2 .left)) _ (c .before .before .before .before .before .before .before .before .before .before .before .before .before .before .before .before .line-of .ensures) _ (c .before .before .before .before .before .before .before .before .before .before .before .before .before .before .before .steps .ensures), c .before .before .before .before .before .before .before .before .before .before .before .before .before .if3 .left))
+returns-4 c =
+    let after-market-of = c .before .before .before .before .before .before .before .before .before in
+    let in-else3 = after-market-of .before .before .before .before in
+    let after-steps = in-else3 .before .before in
+    let in-else2 = after-steps .before .before in
+    let in-else1 = in-else2 .before .before in
+    let after-day-number = in-else1 .before in
+    let at-start = after-day-number .before .before in
+    let day = now (at-start .args .day) in
+    let line = at-start .args .line in
+    let step = at-start .args .step in
+    let step-built′ = built (c .before .before) in
+    let pool-there′ = pool-there day line step _ _ step-built′ (c .before .pool-for .ensures) in
+    let figures-there′ = figures-there day line step _ _ _ _ step-built′
+    (market-claw day _ (after-market-of .market-of .ensures)) pool-there′ (c .figures .ensures) in
+    let count-is′ = count-is day (accepted in-else1) line (below in-else2) _ (after-steps .before .line-of .ensures) _
+    (after-steps .steps .ensures) in
+    view-whole day line step _ (after-day-number .day-number .ensures) (in-else1 .if1 .left) (below in-else2) _
+    figures-there′ (omega (arith, count-is′, in-else3 .if3 .left))
 
 pub view-spec : {M : Type 1} → statement M
 view-spec =

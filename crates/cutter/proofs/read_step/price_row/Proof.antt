@@ -12,7 +12,10 @@ use Rattle.cutter.proofs.read_step.price_row.Tie as tie
 
 returns : tie.Need-returns
 unfolding priceIn
-returns c = same-five (ap (λ (k : ℕ). getD (now (c .before .before .before .before .before .args .prices)) k 0) (sym (zero-add (c .before .before .before .before .before .args .j)))) refl refl refl refl
+returns c =
+    let at-start = c .before .before .before .before .before in
+    same-five (ap (λ (k : ℕ). getD (now (at-start .args .prices)) k 0) (sym (zero-add (at-start .args .j)))) refl refl refl
+    refl
 
 pub price-row-spec : {M : Type 1} → statement M
 price-row-spec =

@@ -4,9 +4,6 @@ use mathlib.Core.Path.{refl}
 use Rattle.cutter_cursors.proofs.cursors.Moves.{cursor-is}
 use Rattle.cutter_cursors.proofs.cursors.cursor_start.Statement.{statement}
 use Rattle.cutter_cursors.proofs.cursors.cursor_start.Tie as tie
-use Rattle.cutter_cursors.proofs.cursors.cursor_start.Reads as reads
-use Rattle.cutter_cursors.proofs.cursors.cursor_start.Lts as lts
-use Rattle.cutter_cursors.proofs.cursors.bid_break.Reads as bid-break-reads
 
 bid-break-requires : tie.Need-bid-break-requires
 bid-break-requires c κs = search needs

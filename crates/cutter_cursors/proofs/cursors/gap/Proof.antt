@@ -4,9 +4,6 @@ use mathlib.Core.Path.{refl}
 use Rattle.cutter_cursors.proofs.cursors.Moves.{gap-is}
 use Rattle.cutter_cursors.proofs.cursors.gap.Statement.{statement}
 use Rattle.cutter_cursors.proofs.cursors.gap.Tie as tie
-use Rattle.cutter_cursors.proofs.cursors.gap.Reads as reads
-use Rattle.cutter_cursors.proofs.cursors.gap.Lts as lts
-use Rattle.std.proofs.num.wrapping_sub_u32.Reads as wrapping-sub-u32-reads
 
 add-wrapping-sub-u32 : tie.Need-add-wrapping-sub-u32
 add-wrapping-sub-u32 c = search needs

@@ -4,10 +4,6 @@ use borrow.Author.Needs.{needs}
 use Rattle.cutter_cursors.proofs.cursors.Moves.{moved-is, after-below}
 use Rattle.cutter_cursors.proofs.cursors.moved.Statement.{statement}
 use Rattle.cutter_cursors.proofs.cursors.moved.Tie as tie
-use Rattle.cutter_cursors.proofs.cursors.moved.Reads as reads
-use Rattle.cutter_cursors.proofs.cursors.moved.Lts as lts
-use Rattle.cutter_cursors.proofs.cursors.bid_break.Reads as bid-break-reads
-use Rattle.cutter_cursors.proofs.cursors.step_after.Reads as step-after-reads
 
 count-of-requires : tie.Need-count-of-requires
 count-of-requires c κs = search needs
@@ -16,10 +12,16 @@ sub-step-after : tie.Need-sub-step-after
 sub-step-after c = search needs
 
 step-after-requires : tie.Need-step-after-requires
-step-after-requires c κs = (omega (arith, c .count-of .ensures, c .before .before .pre .1), omega (arith, c .count-of .ensures, c .before .before .pre .0 .few), c .before .before .pre .2)
+step-after-requires c κs =
+    let at-start = c .before .before in
+    (omega (arith, c .count-of .ensures, at-start .pre .1), omega (arith, c .count-of .ensures, at-start .pre .0 .few), at-start .pre .2)
 
 bid-break-requires : tie.Need-bid-break-requires
-bid-break-requires c κs = (c .before .before .before .pre .0 .long, c .before .before .before .pre .0 .schedule, after-below _ _ _ (c .step-after .ensures) (c .before .count-of .ensures) (c .before .before .before .pre .0 .some) (c .before .before .before .pre .0 .few))
+bid-break-requires c κs =
+    let at-start = c .before .before .before in
+    let after-below′ = after-below _ _ _ (c .step-after .ensures) (c .before .count-of .ensures) (at-start .pre .0 .some)
+    (at-start .pre .0 .few) in
+    (at-start .pre .0 .long, at-start .pre .0 .schedule, after-below′)
 
 returns : tie.Need-returns
 returns c = moved-is _ _ _ _ (c .before .before .count-of .ensures) (c .before .step-after .ensures) (c .bid-break .ensures)

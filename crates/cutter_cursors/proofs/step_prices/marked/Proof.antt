@@ -2,10 +2,6 @@
 use Rattle.cutter_cursors.proofs.cursors.Moves.{room-of, marked-is}
 use Rattle.cutter_cursors.proofs.step_prices.marked.Statement.{statement}
 use Rattle.cutter_cursors.proofs.step_prices.marked.Tie as tie
-use Rattle.cutter_cursors.proofs.step_prices.marked.Reads as reads
-use Rattle.cutter_cursors.proofs.step_prices.marked.Lts as lts
-use Rattle.cutter_cursors.proofs.step_prices.flag_of.Reads as flag-of-reads
-use Rattle.cutter_cursors.proofs.step_prices.with_flag.Reads as with-flag-reads
 
 flag-of-requires : tie.Need-flag-of-requires
 flag-of-requires c κs = tt
@@ -23,22 +19,37 @@ flag-of-requires-3 : tie.Need-flag-of-requires-3
 flag-of-requires-3 c κs = tt
 
 with-flag-requires-3 : tie.Need-with-flag-requires-3
-with-flag-requires-3 c κs = room-of (c .flag-of3 .ensures) (c .before .before .before .before .before .pre .third)
+with-flag-requires-3 c κs =
+    let at-start = c .before .before .before .before .before in
+    room-of (c .flag-of3 .ensures) (at-start .pre .third)
 
 flag-of-requires-4 : tie.Need-flag-of-requires-4
 flag-of-requires-4 c κs = tt
 
 with-flag-requires-4 : tie.Need-with-flag-requires-4
-with-flag-requires-4 c κs = room-of (c .flag-of4 .ensures) (c .before .before .before .before .before .before .before .pre .fourth)
+with-flag-requires-4 c κs =
+    let at-start = c .before .before .before .before .before .before .before in
+    room-of (c .flag-of4 .ensures) (at-start .pre .fourth)
 
 flag-of-requires-5 : tie.Need-flag-of-requires-5
 flag-of-requires-5 c κs = tt
 
 with-flag-requires-5 : tie.Need-with-flag-requires-5
-with-flag-requires-5 c κs = room-of (c .flag-of5 .ensures) (c .before .before .before .before .before .before .before .before .before .pre .fifth)
+with-flag-requires-5 c κs =
+    let at-start = c .before .before .before .before .before .before .before .before .before in
+    room-of (c .flag-of5 .ensures) (at-start .pre .fifth)
 
 returns : tie.Need-returns
-returns c = marked-is _ _ _ _ (c .before .before .before .before .before .before .before .before .before .flag-of .ensures) (c .before .before .before .before .before .before .before .before .with-flag .ensures) (c .before .before .before .before .before .before .before .flag-of2 .ensures) (c .before .before .before .before .before .before .with-flag2 .ensures) (c .before .before .before .before .before .flag-of3 .ensures) (c .before .before .before .before .with-flag3 .ensures) (c .before .before .before .flag-of4 .ensures) (c .before .before .with-flag4 .ensures) (c .before .flag-of5 .ensures) (c .with-flag5 .ensures)
+returns c =
+    let after-with-flag3 = c .before .before .before .before in
+    let after-with-flag = after-with-flag3 .before .before .before .before in
+    marked-is _ _ _ _
+    (after-with-flag .before .flag-of .ensures) (after-with-flag .with-flag .ensures)
+    (after-with-flag3 .before .before .before .flag-of2 .ensures)
+    (after-with-flag3 .before .before .with-flag2 .ensures)
+    (after-with-flag3 .before .flag-of3 .ensures) (after-with-flag3 .with-flag3 .ensures)
+    (c .before .before .before .flag-of4 .ensures) (c .before .before .with-flag4 .ensures) (c .before .flag-of5 .ensures)
+    (c .with-flag5 .ensures)
 
 pub marked-spec : {M : Type 1} → statement M
 marked-spec =

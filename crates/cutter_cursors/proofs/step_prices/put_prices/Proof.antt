@@ -4,9 +4,6 @@ use borrow.Author.Needs.{needs}
 use Rattle.cutter_cursors.proofs.cursors.Moves.{price-read, put-is}
 use Rattle.cutter_cursors.proofs.step_prices.put_prices.Statement.{statement}
 use Rattle.cutter_cursors.proofs.step_prices.put_prices.Tie as tie
-use Rattle.cutter_cursors.proofs.step_prices.put_prices.Reads as reads
-use Rattle.cutter_cursors.proofs.step_prices.put_prices.Lts as lts
-use Rattle.cutter_cursors.proofs.step_prices.bid_price.Reads as bid-price-reads
 
 bid-price-requires : tie.Need-bid-price-requires
 bid-price-requires c κs = price-read (c .before .pre .0) 0 (omega arith) (c .before .pre .1 .first)
@@ -30,7 +27,9 @@ element-write-prices-2 : tie.Need-element-write-prices-2
 element-write-prices-2 c = search needs
 
 bid-price-requires-3 : tie.Need-bid-price-requires-3
-bid-price-requires-3 c κs = price-read (c .before .before .before .pre .0) 2 (omega arith) (c .before .before .before .pre .1 .third)
+bid-price-requires-3 c κs =
+    let at-start = c .before .before .before in
+    price-read (at-start .pre .0) 2 (omega arith) (at-start .pre .1 .third)
 
 add-prices-2 : tie.Need-add-prices-2
 add-prices-2 c = omega arith
@@ -42,7 +41,9 @@ element-write-prices-3 : tie.Need-element-write-prices-3
 element-write-prices-3 c = search needs
 
 bid-price-requires-4 : tie.Need-bid-price-requires-4
-bid-price-requires-4 c κs = price-read (c .before .before .before .before .pre .0) 3 (omega arith) (c .before .before .before .before .pre .1 .fourth)
+bid-price-requires-4 c κs =
+    let at-start = c .before .before .before .before in
+    price-read (at-start .pre .0) 3 (omega arith) (at-start .pre .1 .fourth)
 
 add-prices-3 : tie.Need-add-prices-3
 add-prices-3 c = omega arith
@@ -54,7 +55,9 @@ element-write-prices-4 : tie.Need-element-write-prices-4
 element-write-prices-4 c = search needs
 
 bid-price-requires-5 : tie.Need-bid-price-requires-5
-bid-price-requires-5 c κs = price-read (c .before .before .before .before .before .pre .0) 4 (omega arith) (c .before .before .before .before .before .pre .1 .fifth)
+bid-price-requires-5 c κs =
+    let at-start = c .before .before .before .before .before in
+    price-read (at-start .pre .0) 4 (omega arith) (at-start .pre .1 .fifth)
 
 add-prices-4 : tie.Need-add-prices-4
 add-prices-4 c = omega arith
@@ -66,7 +69,10 @@ element-write-prices-5 : tie.Need-element-write-prices-5
 element-write-prices-5 c = search needs
 
 returns : tie.Need-returns
-returns c = put-is _ _ _ _ (c .before .before .before .before .bid-price .ensures) (c .before .before .before .bid-price2 .ensures) (c .before .before .bid-price3 .ensures) (c .before .bid-price4 .ensures) (c .bid-price5 .ensures)
+returns c =
+    let after-bid-price = c .before .before .before .before in
+    put-is _ _ _ _ (after-bid-price .bid-price .ensures) (c .before .before .before .bid-price2 .ensures)
+    (c .before .before .bid-price3 .ensures) (c .before .bid-price4 .ensures) (c .bid-price5 .ensures)
 
 pub put-prices-spec : {M : Type 1} → statement M
 put-prices-spec =

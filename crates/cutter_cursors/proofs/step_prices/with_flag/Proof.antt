@@ -3,8 +3,6 @@ use borrow.Author.Needs.{needs}
 use Rattle.cutter_cursors.proofs.cursors.Moves.{flag-put}
 use Rattle.cutter_cursors.proofs.step_prices.with_flag.Statement.{statement}
 use Rattle.cutter_cursors.proofs.step_prices.with_flag.Tie as tie
-use Rattle.cutter_cursors.proofs.step_prices.with_flag.Reads as reads
-use Rattle.cutter_cursors.proofs.step_prices.with_flag.Lts as lts
 
 shl-result : tie.Need-shl-result
 shl-result c = search needs

@@ -10,10 +10,15 @@ slice-reshare-prefix-write-all : tie.Need-slice-reshare-prefix-write-all
 slice-reshare-prefix-write-all c = omega (arith, c .before .before .put-line .ensures .end, c .before .before .put-line .ensures .most)
 
 slice-aggregate-write-all : tie.Need-slice-aggregate-write-all
-slice-aggregate-write-all c = sym (length-take-le _ _ (omega (arith, c .before .before .before .put-line .ensures .end, c .before .before .before .put-line .ensures .most)))
+slice-aggregate-write-all c =
+    let after-put-line = c .before .before .before in
+    sym
+    (length-take-le _ _ (omega (arith, after-put-line .put-line .ensures .end, after-put-line .put-line .ensures .most)))
 
 returns : tie.Need-returns
-returns c = c .before .before .before .before .put-line .ensures .bytes
+returns c =
+    let after-put-line = c .before .before .before .before in
+    after-put-line .put-line .ensures .bytes
 
 pub print-line-spec : {M : Type 1} → statement M
 print-line-spec =

@@ -8,7 +8,15 @@ use Rattle.cutter_text.proofs.answer.put_accepted.Statement.{statement}
 use Rattle.cutter_text.proofs.answer.put_accepted.Tie as tie
 
 returns : tie.Need-returns
-returns c = written-wider (25 + 126 * c .before .before .before .before .before .before .before .before .before .before .before .before .before .before .before .before .before .before .before .before .before .before .args .count + 111 + 113) textMost (written-as (steps-is _ (c .before .before .before .before .before .before .before .before .before .before .before .before .before .before .before .before .before .before .before .before .before .before .pre .0) refl (c .before .before .before .widened .ensures)) (then (then (then (c .before .before .before .before .before .before .before .before .before .before .before .before .before .before .before .before .before .put-count .ensures) (c .before .before .before .before .before .before .before .before .before .before .before .before .before .put-steps .ensures)) (c .before .before .before .before .before .before .before .before .put-row .ensures)) (c .before .before .put-row2 .ensures))) (search needs)
+returns c =
+    let after-put-row = c .before .before .before .before .before .before .before .before in
+    let after-put-steps = after-put-row .before .before .before .before .before in
+    let after-put-count = after-put-steps .before .before .before .before in
+    let at-start = after-put-count .before .before .before .before .before in
+    let then₁ = then (after-put-count .put-count .ensures) (after-put-steps .put-steps .ensures) in
+    let then₂ = then (then then₁ (after-put-row .put-row .ensures)) (c .before .before .put-row2 .ensures) in
+    let written-as′ = written-as (steps-is _ (at-start .pre .0) refl (c .before .before .before .widened .ensures)) then₂ in
+    written-wider (25 + 126 * at-start .args .count + 111 + 113) textMost written-as′ (search needs)
 
 pub put-accepted-spec : {M : Type 1} → statement M
 put-accepted-spec =

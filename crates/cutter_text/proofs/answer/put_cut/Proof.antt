@@ -7,10 +7,15 @@ use Rattle.cutter_text.proofs.answer.put_cut.Statement.{statement}
 use Rattle.cutter_text.proofs.answer.put_cut.Tie as tie
 
 returns : tie.Need-returns
-returns c = written-wider 29 textMost (written-as (text-refused _ (c .before .before .before .before .if1 .taken)) (c .before .before .put-refused .ensures)) (omega arith)
+returns c =
+    let in-then1 = c .before .before .before .before in
+    written-wider 29 textMost (written-as (text-refused _ (in-then1 .if1 .taken)) (c .before .before .put-refused .ensures))
+    (omega arith)
 
 returns-2 : tie.Need-returns-2
-returns-2 c = written-as (text-steps _ (c .before .before .before .before .before .if1 .left)) (c .before .before .put-accepted .ensures)
+returns-2 c =
+    let in-else1 = c .before .before .before .before .before in
+    written-as (text-steps _ (in-else1 .if1 .left)) (c .before .before .put-accepted .ensures)
 
 pub put-cut-spec : {M : Type 1} → statement M
 put-cut-spec =

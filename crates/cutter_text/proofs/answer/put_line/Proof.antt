@@ -13,7 +13,11 @@ put-cut-requires : tie.Need-put-cut-requires
 put-cut-requires c κs = (answer-count _ _ (c .cut .ensures), search needs)
 
 returns-2 : tie.Need-returns-2
-returns-2 c = written-wider textMost _ (written-as (lent-whole _ (c .before .before .before .cut .ensures) (c .before .before .before .before .before .if1 .left)) (c .before .before .put-cut .ensures)) (c .before .before .before .before .before .if1 .left)
+returns-2 c =
+    let in-else1 = c .before .before .before .before .before in
+    written-wider textMost _
+    (written-as (lent-whole _ (c .before .before .before .cut .ensures) (in-else1 .if1 .left))
+    (c .before .before .put-cut .ensures)) (in-else1 .if1 .left)
 
 pub put-line-spec : {M : Type 1} → statement M
 put-line-spec =

@@ -7,7 +7,11 @@ use Rattle.cutter_text.proofs.rows.put_count.Tie as tie
 
 returns : tie.Need-returns
 unfolding countText
-returns c = then (then (c .before .before .before .before .before .before .before .before .before .before .put-bytes .ensures) (c .before .before .before .before .before .before .put-decimal .ensures)) (c .before .before .put-byte .ensures)
+returns c =
+    let after-put-decimal = c .before .before .before .before .before .before in
+    let after-put-bytes = after-put-decimal .before .before .before .before in
+    then (then (after-put-bytes .put-bytes .ensures) (after-put-decimal .put-decimal .ensures))
+    (c .before .before .put-byte .ensures)
 
 pub put-count-spec : {M : Type 1} → statement M
 put-count-spec =

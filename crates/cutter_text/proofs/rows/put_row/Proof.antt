@@ -5,7 +5,9 @@ use Rattle.cutter_text.proofs.rows.put_row.Statement.{statement}
 use Rattle.cutter_text.proofs.rows.put_row.Tie as tie
 
 returns : tie.Need-returns
-returns c = then (c .before .before .before .before .before .before .put-bytes .ensures) (c .before .before .put-five .ensures)
+returns c =
+    let after-put-bytes = c .before .before .before .before .before .before in
+    then (after-put-bytes .put-bytes .ensures) (c .before .before .put-five .ensures)
 
 pub put-row-spec : {M : Type 1} → statement M
 put-row-spec =

@@ -5,7 +5,9 @@ use Rattle.cutter_text.proofs.rows.put_step.Statement.{statement}
 use Rattle.cutter_text.proofs.rows.put_step.Tie as tie
 
 returns : tie.Need-returns
-returns c = then (c .before .before .before .before .before .before .put-decimal .ensures) (c .before .before .put-five .ensures)
+returns c =
+    let after-put-decimal = c .before .before .before .before .before .before in
+    then (after-put-decimal .put-decimal .ensures) (c .before .before .put-five .ensures)
 
 pub put-step-spec : {M : Type 1} → statement M
 put-step-spec =

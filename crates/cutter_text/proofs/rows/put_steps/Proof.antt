@@ -20,7 +20,11 @@ loop-holds : tie.Need-loop-holds Inv-loop μ-loop
 loop-holds c = (search needs, search needs, row-none _ _ 126 _)
 
 loop-again : tie.Need-loop-again Inv-loop μ-loop
-loop-again c = (search needs, search needs, row-more _ 126 _ (c .before .before .before .before .before .before .before .loop .inv .2) (written-as (line-of-step _ _ refl (c .before .before .before .prices-of .ensures)) (c .before .before .put-step .ensures)))
+loop-again c =
+    let at-loop = c .before .before .before .before .before .before .before in
+    let written-as′ = written-as (line-of-step _ _ refl (c .before .before .before .prices-of .ensures))
+    (c .before .before .put-step .ensures) in
+    (search needs, search needs, row-more _ 126 _ (at-loop .loop .inv .2) written-as′)
 
 returns : tie.Need-returns Inv-loop μ-loop
 returns c = let e : c .before .loop .k ≡ c .before .before .before .args .count = omega arith in rw e at (c .before .loop .inv .2)

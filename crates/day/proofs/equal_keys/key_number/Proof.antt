@@ -25,13 +25,33 @@ line-of-requires-2 : tie.Need-line-of-requires-2 Inv-loop μ-loop
 line-of-requires-2 c κs = (omega arith, omega arith)
 
 same-key-requires : tie.Need-same-key-requires Inv-loop μ-loop
-same-key-requires c κs = (lent-length (now (c .before .before .before .before .before .args .day)) _ (c .before .before .loop .i) (c .line-of2 .ensures) (omega arith), lent-length (now (c .before .before .before .before .before .args .day)) _ (c .before .before .before .before .before .args .k) (c .before .before .before .line-of .ensures) (omega arith))
+same-key-requires c κs =
+    let at-start = c .before .before .before .before .before in
+    let day = now (at-start .args .day) in (
+      lent-length day _ (c .before .before .loop .i) (c .line-of2 .ensures) (omega arith),
+      lent-length day _ (at-start .args .k) (c .before .before .before .line-of .ensures) (omega arith),
+    )
 
 returns : tie.Need-returns Inv-loop μ-loop
-returns c = key-is _ _ _ (fold-stops _ _ _ 14 (c .before .before .before .before .loop .inv .1) (c .before .before .before .loop-test .taken) (pair-met _ _ _ (pair-is (now (c .before .before .before .before .before .before .before .args .day)) _ _ (c .before .before .before .before .loop .i) (c .before .before .before .before .before .before .before .args .k) _ _ (c .before .before .line-of2 .ensures) (c .before .before .before .before .before .line-of .ensures) (c .before .same-key .ensures) (c .if1 .taken))) (λ e. omega arith))
+returns c =
+    let at-loop = c .before .before .before .before in
+    let at-start = at-loop .before .before .before in
+    let pair-is′ = pair-is (now (at-start .args .day)) _ _ (at-loop .loop .i) (at-start .args .k) _ _
+    (c .before .before .line-of2 .ensures) (at-loop .before .line-of .ensures) (c .before .same-key .ensures)
+    (c .if1 .taken) in
+    let fold-stops′ = fold-stops _ _ _ 14 (at-loop .loop .inv .1) (c .before .before .before .loop-test .taken)
+    (pair-met _ _ _ pair-is′) (λ e. omega arith) in
+    key-is _ _ _ fold-stops′
 
 loop-again : tie.Need-loop-again Inv-loop μ-loop
-loop-again c = fold-goes _ _ _ 0 (c .before .before .before .before .loop .inv .1) (c .before .before .before .loop-test .taken) (pair-passed _ _ _ (pair-is (now (c .before .before .before .before .before .before .before .args .day)) _ _ (c .before .before .before .before .loop .i) (c .before .before .before .before .before .before .before .args .k) _ _ (c .before .before .line-of2 .ensures) (c .before .before .before .before .before .line-of .ensures) (c .before .same-key .ensures) (c .if1 .left))) (refl)
+loop-again c =
+    let at-loop = c .before .before .before .before in
+    let at-start = at-loop .before .before .before in
+    let pair-is′ = pair-is (now (at-start .args .day)) _ _ (at-loop .loop .i) (at-start .args .k) _ _
+    (c .before .before .line-of2 .ensures) (at-loop .before .line-of .ensures) (c .before .same-key .ensures)
+    (c .if1 .left) in
+    fold-goes _ _ _ 0 (at-loop .loop .inv .1) (c .before .before .before .loop-test .taken) (pair-passed _ _ _ pair-is′)
+    refl
 
 returns-2 : tie.Need-returns-2 Inv-loop μ-loop
 returns-2 c = key-is _ _ _ (fold-ends _ _ _ (c .before .loop .inv .1) (c .before .loop .inv .0) (c .loop-test .left))

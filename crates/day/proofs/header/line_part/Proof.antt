@@ -23,7 +23,10 @@ part-result-end : tie.Need-part-result-end
 part-result-end c = omega (arith, part-bounds _ _ _ (c .before .line-part-number .ensures) (c .if1 .left) .length-least)
 
 returns-2 : tie.Need-returns-2
-returns-2 c = lent-line (now (c .before .before .before .before .args .day)) (c .before .before .before .before .args .k) ∙ part-lent _ _ _ (c .before .before .line-part-number .ensures) (c .before .if1 .left)
+returns-2 c =
+    let at-start = c .before .before .before .before in
+    lent-line (now (at-start .args .day)) (at-start .args .k)
+    ∙ part-lent _ _ _ (c .before .before .line-part-number .ensures) (c .before .if1 .left)
 
 pub line-part-spec : {M : Type 1} → statement M
 line-part-spec =

@@ -12,10 +12,14 @@ line-count-requires : tie.Need-line-count-requires
 line-count-requires c κs = omega (arith, the-header _ _ (c .before .header-number .ensures) (c .if1 .left) .length-least)
 
 returns-2 : tie.Need-returns-2
-returns-2 c = part-beyond _ _ (c .before .before .before .header-number .ensures) (c .before .before .if1 .left) _ _ (c .before .line-count .ensures) (c .if2 .taken)
+returns-2 c =
+    part-beyond _ _ (c .before .before .before .header-number .ensures) (c .before .before .if1 .left) _ _
+    (c .before .line-count .ensures) (c .if2 .taken)
 
 returns-3 : tie.Need-returns-3
-returns-3 c = part-within _ _ (c .before .before .before .header-number .ensures) (c .before .before .if1 .left) _ _ (c .before .line-count .ensures) (c .if2 .left)
+returns-3 c =
+    part-within _ _ (c .before .before .before .header-number .ensures) (c .before .before .if1 .left) _ _
+    (c .before .line-count .ensures) (c .if2 .left)
 
 pub line-part-number-spec : {M : Type 1} → statement M
 line-part-number-spec =

@@ -20,10 +20,18 @@ loop-holds : tie.Need-loop-holds Inv-loop μ-loop
 loop-holds c = fold-begins _ _ _ refl
 
 returns : tie.Need-returns Inv-loop μ-loop
-returns c = fold-stops _ _ _ 4 (c .before .before .before .before .loop .inv .1) (c .before .before .before .loop-test .taken) (market-price-above _ _ (sym (c .enum-told2 .given .1) ∙ c .before .before .read .ensures)) (λ e. omega arith)
+returns c =
+    let at-loop = c .before .before .before .before in
+    let market-price-above′ = market-price-above _ _ (sym (c .enum-told2 .given .1) ∙ c .before .before .read .ensures) in
+    fold-stops _ _ _ 4 (at-loop .loop .inv .1) (c .before .before .before .loop-test .taken) market-price-above′
+    (λ e. omega arith)
 
 loop-again : tie.Need-loop-again Inv-loop μ-loop
-loop-again c = fold-goes _ _ _ 0 (c .before .before .before .before .loop .inv .1) (c .before .before .before .loop-test .taken) (market-price-within _ _ _ (sym (c .enum-told .given .1) ∙ c .before .before .read .ensures)) (refl)
+loop-again c =
+    let at-loop = c .before .before .before .before in
+    let market-price-within′ = market-price-within _ _ _
+    (sym (c .enum-told .given .1) ∙ c .before .before .read .ensures) in
+    fold-goes _ _ _ 0 (at-loop .loop .inv .1) (c .before .before .before .loop-test .taken) market-price-within′ refl
 
 returns-2 : tie.Need-returns-2 Inv-loop μ-loop
 returns-2 c = fold-ends _ _ _ (c .before .loop .inv .1) (c .before .loop .inv .0) (c .loop-test .left)

@@ -20,10 +20,14 @@ loop-holds : tie.Need-loop-holds Inv-loop μ-loop
 loop-holds c = fold-begins _ _ _ refl
 
 returns : tie.Need-returns Inv-loop μ-loop
-returns c = fold-stops _ _ _ 5 (c .before .before .before .loop .inv .1) (c .before .before .loop-test .taken) (mark-above _ _ _ (c .before .word-at .ensures) (c .if1 .taken)) (λ e. omega arith)
+returns c =
+    fold-stops _ _ _ 5 (c .before .before .before .loop .inv .1) (c .before .before .loop-test .taken)
+    (mark-above _ _ _ (c .before .word-at .ensures) (c .if1 .taken)) (λ e. omega arith)
 
 loop-again : tie.Need-loop-again Inv-loop μ-loop
-loop-again c = fold-goes _ _ _ 0 (c .before .before .before .loop .inv .1) (c .before .before .loop-test .taken) (mark-within _ _ _ (c .before .word-at .ensures) (c .if1 .left)) (refl)
+loop-again c =
+    fold-goes _ _ _ 0 (c .before .before .before .loop .inv .1) (c .before .before .loop-test .taken)
+    (mark-within _ _ _ (c .before .word-at .ensures) (c .if1 .left)) (refl)
 
 returns-2 : tie.Need-returns-2 Inv-loop μ-loop
 returns-2 c = fold-ends _ _ _ (c .before .loop .inv .1) (c .before .loop .inv .0) (c .loop-test .left)

@@ -1,4 +1,5 @@
 -- `engine_c::part::mewikofu_line_part` meets its contract: an empty part, or the line.
+use Prim.Native.Nat.{_<_}
 use denote.Ref.{now}
 use native.Mathlib.Omega.{arith}
 use borrow.Author.Needs.{needs}
@@ -10,11 +11,18 @@ use Rattle.engine_c.proofs.part.mewikofu_line_part.Tie as tie
 returns : tie.Need-returns
 returns c = part-none (now (c .before .before .before .args .day)) _ _ (c .before .line-part-number .ensures) (c .if1 .taken)
 
+-- the day has the line
+line-most : (c : tie.Else1) → c .before .before .before .args .k < 64
+line-most c =
+    let at-start = c .before .before .before in
+    part-bounds (now (at-start .args .day)) (at-start .args .k) _ (c .before .line-part-number .ensures) (c .if1 .left)
+    .line-most
+
 mul-at : tie.Need-mul-at
-mul-at c = record { fits = omega (arith, part-bounds (now (c .before .before .before .args .day)) (c .before .before .before .args .k) _ (c .before .line-part-number .ensures) (c .if1 .left) .line-most) }
+mul-at c = record { fits = omega (arith, line-most c) }
 
 add-at : tie.Need-add-at
-add-at c = record { fits = omega (arith, part-bounds (now (c .before .before .before .args .day)) (c .before .before .before .args .k) _ (c .before .line-part-number .ensures) (c .if1 .left) .line-most) }
+add-at c = record { fits = omega (arith, line-most c) }
 
 returns-2 : tie.Need-returns-2
 returns-2 c = part-some (now (c .before .before .before .args .day)) _ _ (c .before .line-part-number .ensures) (c .if1 .left)

@@ -6,7 +6,50 @@ use Rattle.engine_c.proofs.viewing.mewikofu_view.Statement.{statement}
 use Rattle.engine_c.proofs.viewing.mewikofu_view.Tie as tie
 
 returns : tie.Need-returns
-returns c = (ap (λ (v : View). v .number) (c .before .before .before .before .before .before .before .before .before .before .before .before .view .ensures), (ap (λ (v : View). v .end) (c .before .before .before .before .before .before .before .before .before .before .before .before .view .ensures), (ap (λ (v : View). v .width) (c .before .before .before .before .before .before .before .before .before .before .before .before .view .ensures), (ap (λ (v : View). v .actual) (c .before .before .before .before .before .before .before .before .before .before .before .before .view .ensures), (ap (λ (v : View). v .price) (c .before .before .before .before .before .before .before .before .before .before .before .before .view .ensures), (ap (λ (v : View). v .flag) (c .before .before .before .before .before .before .before .before .before .before .before .before .view .ensures), (ap (λ (v : View). v .operating) (c .before .before .before .before .before .before .before .before .before .before .before .before .view .ensures), (ap (λ (v : View). v .pricing) (c .before .before .before .before .before .before .before .before .before .before .before .before .view .ensures), (ap (λ (v : View). v .agino) (c .before .before .before .before .before .before .before .before .before .before .before .before .view .ensures), (ap (λ (v : View). v .msiq) (c .before .before .before .before .before .before .before .before .before .before .before .before .view .ensures), (ap (λ (v : View). v .constrained) (c .before .before .before .before .before .before .before .before .before .before .before .before .view .ensures), (ap (λ (v : View). v .matches) (c .before .before .before .before .before .before .before .before .before .before .before .before .view .ensures), (ap (λ (v : View). v .initial) (c .before .before .before .before .before .before .before .before .before .before .before .before .view .ensures), (ap (λ (v : View). v .revised) (c .before .before .before .before .before .before .before .before .before .before .before .before .view .ensures), (ap (λ (v : View). v .modified) (c .before .before .before .before .before .before .before .before .before .before .before .before .view .ensures), ap (λ (v : View). v .finals) (c .before .before .before .before .before .before .before .before .before .before .before .before .view .ensures))))))))))))))))
+returns c =
+    let after-view = c .before .before .before .before .before .before .before .before .before .before .before .before in (
+      ap (λ (v : View). v .number) (after-view .view .ensures),
+      (
+        ap (λ (v : View). v .end) (after-view .view .ensures),
+        (
+          ap (λ (v : View). v .width) (after-view .view .ensures),
+          (
+            ap (λ (v : View). v .actual) (after-view .view .ensures),
+            (
+              ap (λ (v : View). v .price) (after-view .view .ensures),
+              (
+                ap (λ (v : View). v .flag) (after-view .view .ensures),
+                (
+                  ap (λ (v : View). v .operating) (after-view .view .ensures),
+                  (
+                    ap (λ (v : View). v .pricing) (after-view .view .ensures),
+                    (
+                      ap (λ (v : View). v .agino) (after-view .view .ensures),
+                      (
+                        ap (λ (v : View). v .msiq) (after-view .view .ensures),
+                        (
+                          ap (λ (v : View). v .constrained) (after-view .view .ensures),
+                          (
+                            ap (λ (v : View). v .matches) (after-view .view .ensures),
+                            (
+                              ap (λ (v : View). v .initial) (after-view .view .ensures),
+                              (
+                                ap (λ (v : View). v .revised) (after-view .view .ensures),
+                                (ap (λ (v : View). v .modified) (after-view .view .ensures), ap (λ (v : View). v .finals) (after-view .view .ensures)),
+                              ),
+                            ),
+                          ),
+                        ),
+                      ),
+                    ),
+                  ),
+                ),
+              ),
+            ),
+          ),
+        ),
+      ),
+    )
 
 pub mewikofu-view-spec : {M : Type 1} → statement M
 mewikofu-view-spec =

@@ -13,16 +13,27 @@ bid-most-requires-2 : tie.Need-bid-most-requires-2
 bid-most-requires-2 c κs = (search needs, search needs, first-at _ 5 (c .before .before .pre .1) 1 (omega arith))
 
 bid-most-requires-3 : tie.Need-bid-most-requires-3
-bid-most-requires-3 c κs = (search needs, search needs, first-at _ 5 (c .before .before .before .before .pre .1) 2 (omega arith))
+bid-most-requires-3 c κs =
+    let at-start = c .before .before .before .before in
+    (search needs, search needs, first-at _ 5 (at-start .pre .1) 2 (omega arith))
 
 bid-most-requires-4 : tie.Need-bid-most-requires-4
-bid-most-requires-4 c κs = (search needs, search needs, first-at _ 5 (c .before .before .before .before .before .before .pre .1) 3 (omega arith))
+bid-most-requires-4 c κs =
+    let at-start = c .before .before .before .before .before .before in
+    (search needs, search needs, first-at _ 5 (at-start .pre .1) 3 (omega arith))
 
 bid-most-requires-5 : tie.Need-bid-most-requires-5
-bid-most-requires-5 c κs = (search needs, search needs, first-at _ 5 (c .before .before .before .before .before .before .before .before .pre .1) 4 (omega arith))
+bid-most-requires-5 c κs =
+    let at-start = c .before .before .before .before .before .before .before .before in
+    (search needs, search needs, first-at _ 5 (at-start .pre .1) 4 (omega arith))
 
 returns : tie.Need-returns
-returns c = cc (most-five _ _ _ _ _ _ (c .before .before .before .before .before .before .before .before .bid-most .ensures) (c .before .before .before .before .before .before .before .bid-most2 .ensures) (c .before .before .before .before .before .bid-most3 .ensures) (c .before .before .before .bid-most4 .ensures) (c .before .bid-most5 .ensures))
+returns c =
+    let after-bid-most3 = c .before .before .before .before .before in
+    let most-five′ = most-five _ _ _ _ _ _ (after-bid-most3 .before .before .before .bid-most .ensures)
+    (after-bid-most3 .before .before .bid-most2 .ensures) (after-bid-most3 .bid-most3 .ensures)
+    (c .before .before .before .bid-most4 .ensures) (c .before .bid-most5 .ensures) in
+    cc most-five′
 
 pub greatest-break-spec : {M : Type 1} → statement M
 greatest-break-spec =

@@ -8,10 +8,16 @@ returns : tie.Need-returns
 returns c = hedge-above _ _ _ (c .before .word-at .ensures) (c .if1 .taken)
 
 returns-2 : tie.Need-returns-2
-returns-2 c = hedge-withdrawal _ _ _ (c .before .before .before .before .word-at .ensures) (c .before .before .before .if1 .left) _ (c .before .before .word-at2 .ensures) (c .before .if2 .taken) (c .if3 .taken)
+returns-2 c =
+    let after-word-at = c .before .before .before .before in
+    hedge-withdrawal _ _ _ (after-word-at .word-at .ensures) (c .before .before .before .if1 .left) _
+    (c .before .before .word-at2 .ensures) (c .before .if2 .taken) (c .if3 .taken)
 
 returns-3 : tie.Need-returns-3
-returns-3 c = hedge-none _ _ _ (c .before .before .before .before .word-at .ensures) (c .before .before .before .if1 .left) _ (c .before .before .word-at2 .ensures) (c .before .if2 .taken) (c .if3 .left)
+returns-3 c =
+    let after-word-at = c .before .before .before .before in
+    hedge-none _ _ _ (after-word-at .word-at .ensures) (c .before .before .before .if1 .left) _
+    (c .before .before .word-at2 .ensures) (c .before .if2 .taken) (c .if3 .left)
 
 returns-4 : tie.Need-returns-4
 returns-4 c = hedge-injection _ _ _ (c .before .before .before .word-at .ensures) (c .before .before .if1 .left) _ (c .before .word-at2 .ensures) (c .if2 .left)

@@ -14,15 +14,45 @@ use Rattle.line.proofs.limits.limits_number.Tie as tie
 
 returns : tie.Need-returns
 unfolding limitsFault
-returns c = part-stops _ _ _ (c .before .hedge-number .ensures ∙ ap (hedgeFault (now (c .before .before .before .before .args .line))) (c .before .before .greatest-break .ensures)) (c .if1 .taken)
+returns c =
+    let at-start = c .before .before .before .before in
+    let equal′ = c .before .hedge-number .ensures
+    ∙ ap (hedgeFault (now (at-start .args .line))) (c .before .before .greatest-break .ensures) in
+    part-stops _ _ _ equal′ (c .if1 .taken)
 
 returns-2 : tie.Need-returns-2
 unfolding limitsFault
-returns-2 c = part-passes _ _ _ _ (c .before .before .before .before .before .before .before .hedge-number .ensures ∙ ap (hedgeFault (now (c .before .before .before .before .before .before .before .before .before .before .args .line))) (c .before .before .before .before .before .before .before .before .greatest-break .ensures)) (c .before .before .before .before .before .before .if1 .left) (part-stops _ _ _ (c .before .totals-number .ensures ∙ (totals-are _ _ _ _ (c .before .before .before .before .before .wide .ensures .0 ∙ c .before .before .before .before .before .before .before .before .greatest-break .ensures) (c .before .before .before .before .pricing-totals .ensures) (c .before .before .operating-totals .ensures ∙ ap (λ (t : List (List ℕ)). five (tableTotal t)) (c .before .before .before .operating-table .ensures)))) (c .if2 .taken))
+returns-2 c =
+    let after-pricing-totals = c .before .before .before .before in
+    let after-greatest-break = after-pricing-totals .before .before .before .before in
+    let at-start = after-greatest-break .before .before in
+    let equal₁ = after-pricing-totals .before .before .before .hedge-number .ensures
+    ∙ ap (hedgeFault (now (at-start .args .line))) (after-greatest-break .greatest-break .ensures) in
+    let equal₂ = c .before .before .operating-totals .ensures
+    ∙ ap (λ (t : List (List ℕ)). five (tableTotal t)) (c .before .before .before .operating-table .ensures) in
+    let totals-are′ = totals-are _ _ _ _
+    (after-pricing-totals .before .wide .ensures .0 ∙ after-greatest-break .greatest-break .ensures)
+    (after-pricing-totals .pricing-totals .ensures) equal₂ in
+    let part-stops′ = part-stops _ _ _ (c .before .totals-number .ensures ∙ totals-are′) (c .if2 .taken) in
+    part-passes _ _ _ _ equal₁ (after-pricing-totals .before .before .if1 .left) part-stops′
 
 returns-3 : tie.Need-returns-3
 unfolding limitsFault
-returns-3 c = part-passes _ _ _ _ (c .before .before .before .before .before .before .before .before .hedge-number .ensures ∙ ap (hedgeFault (now (c .before .before .before .before .before .before .before .before .before .before .before .args .line))) (c .before .before .before .before .before .before .before .before .before .greatest-break .ensures)) (c .before .before .before .before .before .before .before .if1 .left) (part-passes _ _ _ _ (c .before .before .totals-number .ensures ∙ (totals-are _ _ _ _ (c .before .before .before .before .before .before .wide .ensures .0 ∙ c .before .before .before .before .before .before .before .before .before .greatest-break .ensures) (c .before .before .before .before .before .pricing-totals .ensures) (c .before .before .before .operating-totals .ensures ∙ ap (λ (t : List (List ℕ)). five (tableTotal t)) (c .before .before .before .before .operating-table .ensures)))) (c .before .if2 .left) (c .actuals-number .ensures))
+returns-3 c =
+    let after-operating-table = c .before .before .before .before in
+    let after-hedge-number = after-operating-table .before .before .before .before in
+    let after-greatest-break = after-hedge-number .before in
+    let at-start = after-greatest-break .before .before in
+    let equal₁ = after-hedge-number .hedge-number .ensures
+    ∙ ap (hedgeFault (now (at-start .args .line))) (after-greatest-break .greatest-break .ensures) in
+    let equal₂ = c .before .before .before .operating-totals .ensures
+    ∙ ap (λ (t : List (List ℕ)). five (tableTotal t)) (after-operating-table .operating-table .ensures) in
+    let totals-are′ = totals-are _ _ _ _
+    (after-operating-table .before .before .wide .ensures .0 ∙ after-greatest-break .greatest-break .ensures)
+    (after-operating-table .before .pricing-totals .ensures) equal₂ in
+    let part-passes′ = part-passes _ _ _ _ (c .before .before .totals-number .ensures ∙ totals-are′) (c .before .if2 .left)
+    (c .actuals-number .ensures) in
+    part-passes _ _ _ _ equal₁ (after-operating-table .before .before .before .if1 .left) part-passes′
 
 pub limits-number-spec : {M : Type 1} → statement M
 limits-number-spec =

@@ -25,11 +25,16 @@ returns c = fold-stops _ _ _ 12 (c .before .before .loop .inv .1) (c .before .lo
 
 returns-2 : tie.Need-returns-2 Inv-loop μ-loop
 unfolding totalsFault
-returns-2 c = fold-stops _ _ _ 12 (c .before .before .before .loop .inv .1) (c .before .before .loop-test .taken) (passes 12 _ _ _ (le-ltb _ _ (c .before .if1 .left)) (ends-at 12 _ (lt-ltb _ _ (c .if2 .taken)))) (λ e. omega arith)
+returns-2 c =
+    let passes′ = passes 12 _ _ _ (le-ltb _ _ (c .before .if1 .left)) (ends-at 12 _ (lt-ltb _ _ (c .if2 .taken))) in
+    fold-stops _ _ _ 12 (c .before .before .before .loop .inv .1) (c .before .before .loop-test .taken) passes′
+    (λ e. omega arith)
 
 loop-again : tie.Need-loop-again Inv-loop μ-loop
 unfolding totalsFault
-loop-again c = fold-goes _ _ _ 0 (c .before .before .before .loop .inv .1) (c .before .before .loop-test .taken) (passes 12 _ _ _ (le-ltb _ _ (c .before .if1 .left)) (none-at 12 _ (le-ltb _ _ (c .if2 .left)))) refl
+loop-again c =
+    let passes′ = passes 12 _ _ _ (le-ltb _ _ (c .before .if1 .left)) (none-at 12 _ (le-ltb _ _ (c .if2 .left))) in
+    fold-goes _ _ _ 0 (c .before .before .before .loop .inv .1) (c .before .before .loop-test .taken) passes′ refl
 
 returns-3 : tie.Need-returns-3 Inv-loop μ-loop
 returns-3 c = fold-ends _ _ _ (c .before .loop .inv .1) (c .before .loop .inv .0) (c .loop-test .left)

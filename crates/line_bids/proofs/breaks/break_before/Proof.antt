@@ -11,7 +11,9 @@ returns : tie.Need-returns
 returns c = before-first _ _ (c .if1 .taken)
 
 returns-2 : tie.Need-returns-2
-returns-2 c = c .word-at .ensures ∙ before-later (bidBreak (now (c .before .before .before .args .line)) (c .before .before .before .args .s)) _ (c .before .if1 .left)
+returns-2 c =
+    let at-start = c .before .before .before in
+    c .word-at .ensures ∙ before-later (bidBreak (now (at-start .args .line)) (at-start .args .s)) _ (c .before .if1 .left)
 
 pub break-before-spec : {M : Type 1} → statement M
 break-before-spec =

@@ -9,10 +9,18 @@ returns : tie.Need-returns
 returns c = order-first _ _ _ (c .if1 .taken)
 
 returns-2 : tie.Need-returns-2
-returns-2 c = order-bad _ _ _ _ _ _ (c .before .before .before .before .before .if1 .left) (c .before .before .word-at3 .ensures) (c .before .before .before .before .word-at .ensures) (c .before .before .before .word-at2 .ensures) (sym (c .if2 .taken) ∙ c .before .out-of-order .ensures)
+returns-2 c =
+    let after-word-at = c .before .before .before .before in
+    order-bad _ _ _ _ _ _ (after-word-at .before .if1 .left) (c .before .before .word-at3 .ensures)
+    (after-word-at .word-at .ensures) (c .before .before .before .word-at2 .ensures)
+    (sym (c .if2 .taken) ∙ c .before .out-of-order .ensures)
 
 returns-3 : tie.Need-returns-3
-returns-3 c = order-good _ _ _ _ _ _ (c .before .before .before .before .before .if1 .left) (c .before .before .word-at3 .ensures) (c .before .before .before .before .word-at .ensures) (c .before .before .before .word-at2 .ensures) (sym (c .if2 .left) ∙ c .before .out-of-order .ensures)
+returns-3 c =
+    let after-word-at = c .before .before .before .before in
+    order-good _ _ _ _ _ _ (after-word-at .before .if1 .left) (c .before .before .word-at3 .ensures)
+    (after-word-at .word-at .ensures) (c .before .before .before .word-at2 .ensures)
+    (sym (c .if2 .left) ∙ c .before .out-of-order .ensures)
 
 pub order-number-spec : {M : Type 1} → statement M
 order-number-spec =

@@ -18,10 +18,14 @@ loop-holds : tie.Need-loop-holds Inv-loop μ-loop
 loop-holds c = fold-begins _ _ _ refl
 
 returns : tie.Need-returns Inv-loop μ-loop
-returns c = fold-stops _ _ _ _ (c .before .before .before .loop .inv .1) (c .before .before .loop-test .taken) (c .before .price-number .ensures) (c .if1 .taken)
+returns c =
+    fold-stops _ _ _ _ (c .before .before .before .loop .inv .1) (c .before .before .loop-test .taken)
+    (c .before .price-number .ensures) (c .if1 .taken)
 
 loop-again : tie.Need-loop-again Inv-loop μ-loop
-loop-again c = fold-goes _ _ _ _ (c .before .before .before .loop .inv .1) (c .before .before .loop-test .taken) (c .before .price-number .ensures) (c .if1 .left)
+loop-again c =
+    fold-goes _ _ _ _ (c .before .before .before .loop .inv .1) (c .before .before .loop-test .taken)
+    (c .before .price-number .ensures) (c .if1 .left)
 
 returns-2 : tie.Need-returns-2 Inv-loop μ-loop
 returns-2 c = fold-ends _ _ _ (c .before .loop .inv .1) (c .before .loop .inv .0) (c .loop-test .left)

@@ -8,7 +8,10 @@ returns : tie.Need-returns
 returns c = slots-stops _ _ _ (c .before .before .before .pre .3) _ (c .before .prices-number .ensures) (c .if1 .taken)
 
 returns-2 : tie.Need-returns-2
-returns-2 c = slots-passes _ _ _ (c .before .before .before .before .pre .3) _ _ (c .before .before .prices-number .ensures) (c .before .if1 .left) (c .unused-number .ensures)
+returns-2 c =
+    let at-start = c .before .before .before .before in
+    slots-passes _ _ _ (at-start .pre .3) _ _ (c .before .before .prices-number .ensures) (c .before .if1 .left)
+    (c .unused-number .ensures)
 
 pub slots-number-spec : {M : Type 1} → statement M
 slots-number-spec =

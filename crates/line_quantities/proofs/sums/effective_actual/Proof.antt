@@ -9,7 +9,11 @@ use Rattle.line_quantities.proofs.sums.effective_actual.Tie as tie
 
 returns : tie.Need-returns
 unfolding lesserAt
-returns c = c .row-sum .ensures ∙ ap rowSum (same-five (c .before .before .before .before .before .lesser .ensures) (c .before .before .before .before .lesser2 .ensures) (c .before .before .before .lesser3 .ensures) (c .before .before .lesser4 .ensures) (c .before .lesser5 .ensures)) ∙ lesser-total _ _
+returns c =
+    let after-lesser2 = c .before .before .before .before in
+    let same-five′ = same-five (after-lesser2 .before .lesser .ensures) (after-lesser2 .lesser2 .ensures)
+    (c .before .before .before .lesser3 .ensures) (c .before .before .lesser4 .ensures) (c .before .lesser5 .ensures) in
+    c .row-sum .ensures ∙ ap rowSum same-five′ ∙ lesser-total _ _
 
 pub effective-actual-spec : {M : Type 1} → statement M
 effective-actual-spec =

@@ -18,7 +18,9 @@ use Rattle.settling.proofs.book_lines.put_lines.Statement.{statement}
 use Rattle.settling.proofs.book_lines.put_lines.Tie as tie
 
 abbrev Inv-loop : tie.InvT-loop
-Inv-loop day m injection withdrawal book₀ n total₀ k₀ book total k = (k ≤ n) × (length book ≡ length book₀) × (Written (56 * k) book₀ 96 (joined k (lineEntry day)) (96 + 56 * k) book) × (total ≡ moneyTo k (lineMoney day))
+Inv-loop day m injection withdrawal book₀ n total₀ k₀ book total k =
+    (k ≤ n) × (length book ≡ length book₀) × (Written (56 * k) book₀ 96 (joined k (lineEntry day)) (96 + 56 * k) book)
+    × (total ≡ moneyTo k (lineMoney day))
 
 abbrev μ-loop : tie.MeasureT-loop
 μ-loop day m injection withdrawal book₀ n total₀ k₀ book total k = n - k
@@ -27,19 +29,43 @@ line-count-requires : tie.Need-line-count-requires Inv-loop μ-loop
 line-count-requires c κs = omega (arith, (c .before .before .pre .0 .accepted) .header .length-least)
 
 loop-holds : tie.Need-loop-holds Inv-loop μ-loop
-loop-holds c = (search needs, search needs, row-none (lineEntry (now (c .before .before .before .args .day))) _ 56 96, no-money (lineMoney (now (c .before .before .before .args .day))))
+loop-holds c =
+    let at-start = c .before .before .before in
+    (search needs, search needs, row-none (lineEntry (now (at-start .args .day))) _ 56 96, no-money (lineMoney (now (at-start .args .day))))
 
 put-line-requires : tie.Need-put-line-requires Inv-loop μ-loop
-put-line-requires c κs = (c .before .before .before .before .before .before .pre .0, (omega (arith, c .before .before .before .line-count .ensures)), omega (arith, c .before .before .before .line-count .ensures, c .before .before .loop .inv .1, c .before .before .before .before .before .before .pre .1))
+put-line-requires c κs =
+    let after-line-count = c .before .before .before in
+    let at-start = after-line-count .before .before .before in (
+      at-start .pre .0,
+      omega (arith, after-line-count .line-count .ensures),
+      omega (arith, after-line-count .line-count .ensures, c .before .before .loop .inv .1, at-start .pre .1),
+    )
 
 money-add-requires : tie.Need-money-add-requires Inv-loop μ-loop
-money-add-requires c κs = total-addable (now (c .before .before .before .before .before .before .before .before .before .args .day)) (c .before .before .before .before .before .before .before .before .before .pre .0 .accepted) (c .before .before .before .before .before .loop .k) (omega (arith, c .before .before .before .before .before .before .line-count .ensures)) _ _ (c .before .before .before .before .before .loop .inv .3) (c .before .before .put-line .ensures .1)
+money-add-requires c κs =
+    let at-loop = c .before .before .before .before .before in
+    let at-start = at-loop .before .before .before .before in
+    total-addable (now (at-start .args .day)) (at-start .pre .0 .accepted) (at-loop .loop .k)
+    (omega (arith, at-loop .before .line-count .ensures)) _ _ (at-loop .loop .inv .3)
+    (c .before .before .put-line .ensures .1)
 
 loop-again : tie.Need-loop-again Inv-loop μ-loop
-loop-again c = (search needs, search needs, book-next (now (c .before .before .before .before .before .before .before .before .before .before .args .day)) (c .before .before .before .before .before .before .loop .k) _ _ _ (c .before .before .before .before .before .before .loop .inv .2) (c .before .before .before .put-line .ensures .0), lines-next (now (c .before .before .before .before .before .before .before .before .before .before .args .day)) (c .before .before .before .before .before .before .loop .k) _ _ _ (c .before .before .before .before .before .before .loop .inv .3) (c .before .before .before .put-line .ensures .1) (c .money-add .ensures))
+loop-again c =
+    let after-put-line = c .before .before .before in
+    let at-loop = after-put-line .before .before .before in
+    let at-start = at-loop .before .before .before .before in
+    let day = now (at-start .args .day) in
+    let lines-next′ = lines-next day (at-loop .loop .k) _ _ _ (at-loop .loop .inv .3) (after-put-line .put-line .ensures .1)
+    (c .money-add .ensures) in
+    (search needs, search needs, book-next day (at-loop .loop .k) _ _ _ (at-loop .loop .inv .2) (after-put-line .put-line .ensures .0), lines-next′)
 
 returns : tie.Need-returns Inv-loop μ-loop
-returns c = lines-whole (now (c .before .before .before .before .before .args .day)) (c .before .loop .k) _ _ _ _ _ (c .before .before .line-count .ensures) (c .before .loop .inv .0) (c .loop-test .left) (c .before .loop .inv .2) (c .before .loop .inv .3)
+returns c =
+    let at-loop = c .before in
+    let at-start = at-loop .before .before .before .before in
+    lines-whole (now (at-start .args .day)) (at-loop .loop .k) _ _ _ _ _ (at-loop .before .line-count .ensures)
+    (at-loop .loop .inv .0) (c .loop-test .left) (at-loop .loop .inv .2) (at-loop .loop .inv .3)
 
 pub put-lines-spec : {M : Type 1} → statement M
 put-lines-spec =

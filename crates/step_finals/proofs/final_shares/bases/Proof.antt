@@ -8,12 +8,11 @@ use Rattle.step_finals.proofs.final_shares.bases.Tie as tie
 returns : tie.Need-returns
 unfolding baseIn
 returns c =
-    five-is (baseIn (c .before .before .before .before .before .before .before .args .p))
-    (c .before .before .before .before .greater64 .ensures)
-    (c .before .before .before .greater642 .ensures)
-    (c .before .before .greater643 .ensures)
-    (c .before .greater644 .ensures)
-    (c .greater645 .ensures)
+    let after-greater64 = c .before .before .before .before in
+    let at-start = after-greater64 .before .before .before in
+    five-is (baseIn (at-start .args .p)) (after-greater64 .greater64 .ensures)
+    (c .before .before .before .greater642 .ensures) (c .before .before .greater643 .ensures)
+    (c .before .greater644 .ensures) (c .greater645 .ensures)
 
 pub bases-spec : {M : Type 1} → statement M
 bases-spec =

@@ -19,17 +19,18 @@ taken-in-requires-4 : tie.Need-taken-in-requires-4
 taken-in-requires-4 c κs = (search needs, c .before .before .before .pre 3 (omega arith))
 
 taken-in-requires-5 : tie.Need-taken-in-requires-5
-taken-in-requires-5 c κs = (search needs, c .before .before .before .before .pre 4 (omega arith))
+taken-in-requires-5 c κs =
+    let at-start = c .before .before .before .before in
+    (search needs, at-start .pre 4 (omega arith))
 
 returns : tie.Need-returns
 returns c =
-    let g = c .before .before .before .before .before .args in
+    let after-taken-in = c .before .before .before .before in
+    let at-start = after-taken-in .before in
+    let g = at-start .args in
     five-is (takenIn (g .claw) (g .flag) (g .initial) (g .revised) (g .modified) (g .fall) (g .total) (g .base))
-    (c .before .before .before .before .taken-in .ensures)
-    (c .before .before .before .taken-in2 .ensures)
-    (c .before .before .taken-in3 .ensures)
-    (c .before .taken-in4 .ensures)
-    (c .taken-in5 .ensures)
+    (after-taken-in .taken-in .ensures) (c .before .before .before .taken-in2 .ensures)
+    (c .before .before .taken-in3 .ensures) (c .before .taken-in4 .ensures) (c .taken-in5 .ensures)
 
 pub final-minus-spec : {M : Type 1} → statement M
 final-minus-spec =

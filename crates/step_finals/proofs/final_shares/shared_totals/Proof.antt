@@ -8,12 +8,12 @@ use Rattle.step_finals.proofs.final_shares.shared_totals.Tie as tie
 returns : tie.Need-returns
 unfolding totalIn
 returns c =
-    five-is (totalIn (c .before .before .before .before .before .before .before .before .args .p))
-    (c .before .before .before .before .shared-total .ensures)
+    let after-shared-total = c .before .before .before .before in
+    let at-start = after-shared-total .before .before .before .before in
+    five-is (totalIn (at-start .args .p))
+    (after-shared-total .shared-total .ensures)
     (c .before .before .before .shared-total2 .ensures)
-    (c .before .before .shared-total3 .ensures)
-    (c .before .shared-total4 .ensures)
-    (c .shared-total5 .ensures)
+    (c .before .before .shared-total3 .ensures) (c .before .shared-total4 .ensures) (c .shared-total5 .ensures)
 
 pub shared-totals-spec : {M : Type 1} → statement M
 shared-totals-spec =

@@ -8,17 +8,44 @@ use Rattle.step_finals.proofs.finals.final_taken.Tie as tie
 
 revised-minus-requires : tie.Need-revised-minus-requires
 unfolding matchRow
-revised-minus-requires c κs = (c .before .before .before .before .pre .0, rw (c .match-table .ensures, c .before .before .before .before .pre .2), of-minus (c .before .before .before .before .args .x) _ (c .before .before .before .before .pre .4))
+revised-minus-requires c κs =
+    let at-start = c .before .before .before .before in
+    (at-start .pre .0, rw (c .match-table .ensures, at-start .pre .2), of-minus (at-start .args .x) _ (at-start .pre .4))
 
 modified-minus-requires : tie.Need-modified-minus-requires
 unfolding matchRow
-modified-minus-requires c κs = (c .before .before .before .before .before .pre .0, rw (c .before .match-table .ensures, c .before .before .before .before .before .pre .2), c .before .before .before .before .before .pre .3, of-minus (c .before .before .before .before .before .args .x) _ (c .before .before .before .before .before .pre .4))
+modified-minus-requires c κs =
+    let at-start = c .before .before .before .before .before in
+    (at-start .pre .0, rw (c .before .match-table .ensures, at-start .pre .2), at-start .pre .3, of-minus (at-start .args .x) _ (at-start .pre .4))
 
 final-minus-requires : tie.Need-final-minus-requires
-final-minus-requires c κs = let x = c .before .before .before .before .before .before .before .before .args .x in let e = c .before .before .before .before .before .before .before .before .pre .4 in sharing x (c .before .before .before .before .before .before .before .before .args .p) (record { initials = of-minus x _ e; reviseds = c .before .before .before .revised-minus .ensures; modifieds = c .before .before .modified-minus .ensures; falls = of-falls x _ e; totals = c .before .shared-totals .ensures; bases = c .bases .ensures }) (c .before .before .before .before .before .before .before .before .pre .0) (c .before .before .before .before .before .before .before .before .pre .1)
+final-minus-requires c κs =
+    let at-start = c .before .before .before .before .before .before .before .before in
+    let x = at-start .args .x in
+    let e = at-start .pre .4 in
+    sharing x (at-start .args .p) (record {
+      initials = of-minus x _ e;
+      reviseds = c .before .before .before .revised-minus .ensures;
+      modifieds = c .before .before .modified-minus .ensures;
+      falls = of-falls x _ e;
+      totals = c .before .shared-totals .ensures;
+      bases = c .bases .ensures;
+    }) (at-start .pre .0) (at-start .pre .1)
 
 returns : tie.Need-returns
-returns c = let x = c .before .before .before .before .before .before .before .before .before .args .x in let e = c .before .before .before .before .before .before .before .before .before .pre .4 in final-row x (c .before .before .before .before .before .before .before .before .before .args .claw) (c .before .before .before .before .before .before .before .before .before .args .p) (record { initials = of-minus x _ e; reviseds = c .before .before .before .before .revised-minus .ensures; modifieds = c .before .before .before .modified-minus .ensures; falls = of-falls x _ e; totals = c .before .before .shared-totals .ensures; bases = c .before .bases .ensures }) (c .final-minus .ensures)
+returns c =
+    let after-revised-minus = c .before .before .before .before in
+    let at-start = after-revised-minus .before .before .before .before .before in
+    let x = at-start .args .x in
+    let e = at-start .pre .4 in
+    final-row x (at-start .args .claw) (at-start .args .p) (record {
+      initials = of-minus x _ e;
+      reviseds = after-revised-minus .revised-minus .ensures;
+      modifieds = c .before .before .before .modified-minus .ensures;
+      falls = of-falls x _ e;
+      totals = c .before .before .shared-totals .ensures;
+      bases = c .before .bases .ensures;
+    }) (c .final-minus .ensures)
 
 pub final-taken-spec : {M : Type 1} → statement M
 final-taken-spec =

@@ -4,10 +4,14 @@ use Rattle.step_finals.proofs.finals.money_add.Statement.{statement}
 use Rattle.step_finals.proofs.finals.money_add.Tie as tie
 
 add-rows-requires : tie.Need-add-rows-requires
-add-rows-requires c κs = c .before .before .before .before .pre .plus
+add-rows-requires c κs =
+    let at-start = c .before .before .before .before in
+    at-start .pre .plus
 
 add-rows-requires-2 : tie.Need-add-rows-requires-2
-add-rows-requires-2 c κs = c .before .before .before .before .before .pre .minus
+add-rows-requires-2 c κs =
+    let at-start = c .before .before .before .before .before in
+    at-start .pre .minus
 
 returns : tie.Need-returns
 unfolding moneySum

@@ -9,34 +9,84 @@ use Rattle.step_finals.proofs.finals.money_with.Statement.{statement}
 use Rattle.step_finals.proofs.finals.money_with.Tie as tie
 
 returns : tie.Need-returns
-returns c = money-idle (c .before .before .args .x) (idle-unpaid (c .before .before .args .x) (sym (c .if1 .taken) ∙ c .before .unpaid .ensures)) _ _ _ (c .before .before .pre .3)
+returns c =
+    let at-start = c .before .before in
+    money-idle (at-start .args .x) (idle-unpaid (at-start .args .x) (sym (c .if1 .taken) ∙ c .before .unpaid .ensures)) _ _
+    _ (at-start .pre .3)
 
 returns-2 : tie.Need-returns-2
-returns-2 c = money-idle (c .before .before .before .before .args .x) (idle-unconstrained (c .before .before .before .before .args .x) (sym (c .if2 .taken) ∙ c .before .unconstrained .ensures)) _ _ _ (c .before .before .before .before .pre .3)
+returns-2 c =
+    let at-start = c .before .before .before .before in
+    let x = at-start .args .x in
+    let idle-unconstrained′ = idle-unconstrained x (sym (c .if2 .taken) ∙ c .before .unconstrained .ensures) in
+    money-idle x idle-unconstrained′ _ _ _ (at-start .pre .3)
 
 changes-on-requires : tie.Need-changes-on-requires
 changes-on-requires c κs = (c .before .constrained-on .ensures, c .rates .ensures)
 
 money-add-requires : tie.Need-money-add-requires
-money-add-requires c κs = subst (MoneyAddable (c .before .before .before .before .before .before .before .before .before .before .args .m)) (sym (off-money (c .before .before .before .before .before .before .before .before .before .before .args .x) _ (c .before .before .before .changes-on .ensures) (c .before .before .before .before .before .before .before .before .before .before .args .claw) (c .before .before .before .before .before .before .before .before .before .before .args .p) (c .if3 .taken))) (c .before .before .before .before .before .before .before .before .before .before .pre .2)
+money-add-requires c κs =
+    let at-start = c .before .before .before .before .before .before .before .before .before .before in
+    let off-money′ = off-money (at-start .args .x) _ (c .before .before .before .changes-on .ensures) (at-start .args .claw)
+    (at-start .args .p) (c .if3 .taken) in
+    subst (MoneyAddable (at-start .args .m)) (sym off-money′) (at-start .pre .2)
 
 returns-3 : tie.Need-returns-3
-returns-3 c = c .money-add .ensures ∙ ap (moneySum (c .before .before .before .before .before .before .before .before .before .before .before .args .m)) (off-money (c .before .before .before .before .before .before .before .before .before .before .before .args .x) _ (c .before .before .before .before .changes-on .ensures) (c .before .before .before .before .before .before .before .before .before .before .before .args .claw) (c .before .before .before .before .before .before .before .before .before .before .before .args .p) (c .before .if3 .taken))
+returns-3 c =
+    let after-changes-on = c .before .before .before .before in
+    let at-start = after-changes-on .before .before .before .before .before .before .before in
+    let off-money′ = off-money (at-start .args .x) _ (after-changes-on .changes-on .ensures) (at-start .args .claw)
+    (at-start .args .p) (c .before .if3 .taken) in
+    c .money-add .ensures ∙ ap (moneySum (at-start .args .m)) off-money′
 
 money-add-requires-2 : tie.Need-money-add-requires-2
-money-add-requires-2 c κs = subst (MoneyAddable (c .before .before .before .before .before .before .before .before .before .before .before .before .args .m)) (sym (kept-money (c .before .before .before .before .before .before .before .before .before .before .before .before .args .x) _ (c .before .before .before .before .before .changes-on .ensures) (c .before .before .before .before .before .before .before .before .before .before .before .before .args .claw) (c .before .before .before .before .before .before .before .before .before .before .before .before .args .p) (kept-row (c .before .before .before .before .before .before .before .before .before .before .before .before .args .x) _ (of-minus (c .before .before .before .before .before .before .before .before .before .before .before .before .args .x) _ (c .before .before .before .before .before .changes-on .ensures)) (sym (c .if4 .taken) ∙ c .before .all-zero .ensures)))) (c .before .before .before .before .before .before .before .before .before .before .before .before .pre .2)
+money-add-requires-2 c κs =
+    let after-changes-on = c .before .before .before .before .before in
+    let at-start = after-changes-on .before .before .before .before .before .before .before in
+    let x = at-start .args .x in
+    let kept-row′ = kept-row x _ (of-minus x _ (after-changes-on .changes-on .ensures))
+    (sym (c .if4 .taken) ∙ c .before .all-zero .ensures) in
+    let kept-money′ = kept-money x _ (after-changes-on .changes-on .ensures) (at-start .args .claw) (at-start .args .p)
+    kept-row′ in
+    subst (MoneyAddable (at-start .args .m)) (sym kept-money′) (at-start .pre .2)
 
 returns-4 : tie.Need-returns-4
-returns-4 c = c .money-add2 .ensures ∙ ap (moneySum (c .before .before .before .before .before .before .before .before .before .before .before .before .before .args .m)) (kept-money (c .before .before .before .before .before .before .before .before .before .before .before .before .before .args .x) _ (c .before .before .before .before .before .before .changes-on .ensures) (c .before .before .before .before .before .before .before .before .before .before .before .before .before .args .claw) (c .before .before .before .before .before .before .before .before .before .before .before .before .before .args .p) (kept-row (c .before .before .before .before .before .before .before .before .before .before .before .before .before .args .x) _ (of-minus (c .before .before .before .before .before .before .before .before .before .before .before .before .before .args .x) _ (c .before .before .before .before .before .before .changes-on .ensures)) (sym (c .before .if4 .taken) ∙ c .before .before .all-zero .ensures)))
+returns-4 c =
+    let after-changes-on = c .before .before .before .before .before .before in
+    let at-start = after-changes-on .before .before .before .before .before .before .before in
+    let x = at-start .args .x in
+    let kept-row′ = kept-row x _ (of-minus x _ (after-changes-on .changes-on .ensures))
+    (sym (c .before .if4 .taken) ∙ c .before .before .all-zero .ensures) in
+    let kept-money′ = kept-money x _ (after-changes-on .changes-on .ensures) (at-start .args .claw) (at-start .args .p)
+    kept-row′ in
+    c .money-add2 .ensures ∙ ap (moneySum (at-start .args .m)) kept-money′
 
 final-taken-requires : tie.Need-final-taken-requires
-final-taken-requires c κs = (c .before .before .before .before .before .before .before .before .before .before .before .before .pre .0, c .before .before .before .before .before .before .before .before .before .before .before .before .pre .1 (c .before .before .if3 .left), c .before .before .before .before .before .before .before .constrained-on .ensures, c .before .before .before .before .before .before .rates .ensures, c .before .before .before .before .before .changes-on .ensures)
+final-taken-requires c κs =
+    let after-changes-on = c .before .before .before .before .before in
+    let at-start = after-changes-on .before .before .before .before .before .before .before in (
+      at-start .pre .0,
+      at-start .pre .1 (c .before .before .if3 .left),
+      after-changes-on .before .before .constrained-on .ensures,
+      after-changes-on .before .rates .ensures,
+      after-changes-on .changes-on .ensures,
+    )
 
 money-add-requires-3 : tie.Need-money-add-requires-3
-money-add-requires-3 c κs = subst (MoneyAddable (c .before .before .before .before .before .before .before .before .before .before .before .before .before .args .m)) (sym (taken-money (c .before .before .before .before .before .before .before .before .before .before .before .before .before .args .x) _ (c .before .before .before .before .before .before .changes-on .ensures) (c .before .before .before .before .before .before .before .before .before .before .before .before .before .args .claw) (c .before .before .before .before .before .before .before .before .before .before .before .before .before .args .p) _ (c .final-taken .ensures))) (c .before .before .before .before .before .before .before .before .before .before .before .before .before .pre .2)
+money-add-requires-3 c κs =
+    let after-changes-on = c .before .before .before .before .before .before in
+    let at-start = after-changes-on .before .before .before .before .before .before .before in
+    let taken-money′ = taken-money (at-start .args .x) _ (after-changes-on .changes-on .ensures) (at-start .args .claw)
+    (at-start .args .p) _ (c .final-taken .ensures) in
+    subst (MoneyAddable (at-start .args .m)) (sym taken-money′) (at-start .pre .2)
 
 returns-5 : tie.Need-returns-5
-returns-5 c = c .money-add3 .ensures ∙ ap (moneySum (c .before .before .before .before .before .before .before .before .before .before .before .before .before .before .args .m)) (taken-money (c .before .before .before .before .before .before .before .before .before .before .before .before .before .before .args .x) _ (c .before .before .before .before .before .before .before .changes-on .ensures) (c .before .before .before .before .before .before .before .before .before .before .before .before .before .before .args .claw) (c .before .before .before .before .before .before .before .before .before .before .before .before .before .before .args .p) _ (c .before .final-taken .ensures))
+returns-5 c =
+    let after-changes-on = c .before .before .before .before .before .before .before in
+    let at-start = after-changes-on .before .before .before .before .before .before .before in
+    let taken-money′ = taken-money (at-start .args .x) _ (after-changes-on .changes-on .ensures) (at-start .args .claw)
+    (at-start .args .p) _ (c .before .final-taken .ensures) in
+    c .money-add3 .ensures ∙ ap (moneySum (at-start .args .m)) taken-money′
 
 pub money-with-spec : {M : Type 1} → statement M
 money-with-spec =

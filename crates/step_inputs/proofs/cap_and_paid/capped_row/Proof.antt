@@ -7,7 +7,10 @@ use Rattle.step_inputs.proofs.cap_and_paid.capped_row.Tie as tie
 
 returns : tie.Need-returns
 unfolding cappedIn
-returns c = same-five (c .before .before .before .before .capped .ensures) (c .before .before .before .capped2 .ensures) (c .before .before .capped3 .ensures) (c .before .capped4 .ensures) (c .capped5 .ensures)
+returns c =
+    let after-capped = c .before .before .before .before in
+    same-five (after-capped .capped .ensures) (c .before .before .before .capped2 .ensures)
+    (c .before .before .capped3 .ensures) (c .before .capped4 .ensures) (c .capped5 .ensures)
 
 pub capped-row-spec : {M : Type 1} → statement M
 capped-row-spec =

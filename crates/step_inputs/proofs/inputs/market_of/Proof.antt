@@ -5,7 +5,9 @@ use Rattle.step_inputs.proofs.inputs.market_of.Statement.{statement}
 use Rattle.step_inputs.proofs.inputs.market_of.Tie as tie
 
 returns : tie.Need-returns
-returns c = market-is _ _ _ _ _ (c .before .before .before .market-row .ensures) (c .before .before .market-row2 .ensures) (c .before .word-at .ensures) (c .word-at2 .ensures)
+returns c =
+    market-is _ _ _ _ _ (c .before .before .before .market-row .ensures) (c .before .before .market-row2 .ensures)
+    (c .before .word-at .ensures) (c .word-at2 .ensures)
 
 pub market-of-spec : {M : Type 1} → statement M
 market-of-spec =

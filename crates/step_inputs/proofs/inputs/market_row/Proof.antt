@@ -11,7 +11,13 @@ use Rattle.step_inputs.proofs.inputs.market_row.Tie as tie
 
 returns : tie.Need-returns
 unfolding wordIn
-returns c = same-five (c .before .before .before .before .word-at .ensures ∙ ap (word (now (c .before .before .before .before .before .before .args .day))) (sym (add-zero (c .before .before .before .before .before .before .args .at)))) (c .before .before .before .word-at2 .ensures) (c .before .before .word-at3 .ensures) (c .before .word-at4 .ensures) (c .word-at5 .ensures)
+returns c =
+    let after-word-at = c .before .before .before .before in
+    let at-start = after-word-at .before .before in
+    same-five
+    (after-word-at .word-at .ensures ∙ ap (word (now (at-start .args .day))) (sym (add-zero (at-start .args .at))))
+    (c .before .before .before .word-at2 .ensures) (c .before .before .word-at3 .ensures) (c .before .word-at4 .ensures)
+    (c .word-at5 .ensures)
 
 pub market-row-spec : {M : Type 1} → statement M
 market-row-spec =

@@ -18,10 +18,15 @@ narrow-requires-4 : tie.Need-narrow-requires-4
 narrow-requires-4 c κs = c .before .before .before .pre 3 (omega arith)
 
 narrow-requires-5 : tie.Need-narrow-requires-5
-narrow-requires-5 c κs = c .before .before .before .before .pre 4 (omega arith)
+narrow-requires-5 c κs =
+    let at-start = c .before .before .before .before in
+    at-start .pre 4 (omega arith)
 
 returns : tie.Need-returns
-returns c = same-five (c .before .before .before .before .narrow .ensures) (c .before .before .before .narrow2 .ensures) (c .before .before .narrow3 .ensures) (c .before .narrow4 .ensures) (c .narrow5 .ensures)
+returns c =
+    let after-narrow = c .before .before .before .before in
+    same-five (after-narrow .narrow .ensures) (c .before .before .before .narrow2 .ensures)
+    (c .before .before .narrow3 .ensures) (c .before .narrow4 .ensures) (c .narrow5 .ensures)
 
 pub narrow-row-spec : {M : Type 1} → statement M
 narrow-row-spec =

@@ -7,7 +7,9 @@ use Rattle.step_matching.proofs.matches.ten_matches.Tie as tie
 
 returns : tie.Need-returns
 unfolding tenMatches matchRow
-returns c = rw (c .before .before .before .before .before .before .before .before .before .before .match-table .ensures)
+returns c =
+    let after-match-table = c .before .before .before .before .before .before .before .before .before .before in
+    rw (after-match-table .match-table .ensures)
 
 pub ten-matches-spec : {M : Type 1} → statement M
 ten-matches-spec =

@@ -16,7 +16,16 @@ add-result-2 c = omega (arith, c .before .before .product .ensures, c .before .p
 
 add-result-3 : tie.Need-add-result-3
 unfolding givenAt productIn sumTo
-add-result-3 c = omega (arith, c .before .before .before .product .ensures, c .before .before .product2 .ensures, c .before .product3 .ensures, c .product4 .ensures, c .before .before .before .before .pre)
+add-result-3 c =
+    let at-start = c .before .before .before .before in
+    omega (
+      arith,
+      c .before .before .before .product .ensures,
+      c .before .before .product2 .ensures,
+      c .before .product3 .ensures,
+      c .product4 .ensures,
+      at-start .pre,
+    )
 
 returns : tie.Need-returns
 unfolding givenAt productIn sumTo

@@ -12,7 +12,10 @@ given-back-requires : tie.Need-given-back-requires
 given-back-requires c κs = rw (c .revised-rates .ensures) (c .before .before .pre)
 
 returns-2 : tie.Need-returns-2
-returns-2 c = rw (ne-eqb (c .before .before .before .args .initial) 0 (c .before .before .if1 .left), sym (c .before .revised-rates .ensures)) (c .given-back .ensures)
+returns-2 c =
+    let at-start = c .before .before .before in
+    rw (ne-eqb (at-start .args .initial) 0 (c .before .before .if1 .left), sym (c .before .revised-rates .ensures))
+    (c .given-back .ensures)
 
 pub revised-back-spec : {M : Type 1} → statement M
 revised-back-spec =

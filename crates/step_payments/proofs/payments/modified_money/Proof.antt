@@ -1,5 +1,4 @@
 -- `step_payments::payments::modified_money` meets its contract.
-use borrow.Author.Needs.{needs}
 use mathlib.Core.Path.{_∙_, ap}
 use Rattle.step_matching.specs.Ledgers.{matchRow}
 use Rattle.step_payments.specs.declared.amounts.Money.{Money}
@@ -10,12 +9,22 @@ use Rattle.step_payments.proofs.payments.modified_money.Tie as tie
 
 modified-minus-requires : tie.Need-modified-minus-requires
 unfolding matchRow moneyOf
-modified-minus-requires c κs = (c .before .before .before .before .before .before .pre, rw (c .before .match-table .ensures, c .before .before .constrained-on .ensures), c .rates .ensures, ap (λ (m : Money). m .minus) (c .before .before .before .before .before .initial-money .ensures))
+modified-minus-requires c κs =
+    let after-initial-money = c .before .before .before .before .before in
+    let at-start = after-initial-money .before in (
+      at-start .pre,
+      rw (c .before .match-table .ensures, c .before .before .constrained-on .ensures),
+      c .rates .ensures,
+      ap (λ (m : Money). m .minus) (after-initial-money .initial-money .ensures),
+    )
 
 returns : tie.Need-returns
 unfolding moneyOf
 returns c =
-    let plus = ap (λ (m : Money). m .plus) (c .before .before .before .before .before .before .initial-money .ensures) ∙ modified-pays (c .before .before .before .before .before .before .before .args .x) in
+    let after-initial-money = c .before .before .before .before .before .before in
+    let at-start = after-initial-money .before in
+    let plus = ap (λ (m : Money). m .plus) (after-initial-money .initial-money .ensures)
+    ∙ modified-pays (at-start .args .x) in
     λ i. record { plus = plus i; minus = c .modified-minus .ensures i }
 
 pub modified-money-spec : {M : Type 1} → statement M

@@ -10,11 +10,22 @@ use Rattle.step_payments.proofs.payments.revised_money.Tie as tie
 
 revised-minus-requires : tie.Need-revised-minus-requires
 unfolding matchRow moneyOf
-revised-minus-requires c κs = (c .before .before .before .before .before .pre, rw (c .match-table .ensures, c .before .constrained-on .ensures), ap (λ (m : Money). m .minus) (c .before .before .before .before .initial-money .ensures))
+revised-minus-requires c κs =
+    let after-initial-money = c .before .before .before .before in
+    let at-start = after-initial-money .before in (
+      at-start .pre,
+      rw (c .match-table .ensures, c .before .constrained-on .ensures),
+      ap (λ (m : Money). m .minus) (after-initial-money .initial-money .ensures),
+    )
 
 returns : tie.Need-returns
 unfolding moneyOf
-returns c = let plus = ap (λ (m : Money). m .plus) (c .before .before .before .before .before .initial-money .ensures) ∙ revised-pays (c .before .before .before .before .before .before .args .x) in λ i. record { plus = plus i; minus = c .revised-minus .ensures i }
+returns c =
+    let after-initial-money = c .before .before .before .before .before in
+    let at-start = after-initial-money .before in
+    let plus = ap (λ (m : Money). m .plus) (after-initial-money .initial-money .ensures)
+    ∙ revised-pays (at-start .args .x) in
+    λ i. record { plus = plus i; minus = c .revised-minus .ensures i }
 
 pub revised-money-spec : {M : Type 1} → statement M
 revised-money-spec =

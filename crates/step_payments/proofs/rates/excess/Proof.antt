@@ -1,5 +1,4 @@
 -- `step_payments::rates::excess` meets its contract.
-use borrow.Author.Needs.{needs}
 use borrow.Author.Tests.{eq-eqb, ne-eqb}
 use Rattle.rules.specs.Payments.{excess}
 use Rattle.step_payments.proofs.rates.excess.Statement.{statement}

@@ -8,12 +8,10 @@ use Rattle.step_payments.proofs.rates.rates.Tie as tie
 returns : tie.Need-returns
 unfolding rate
 returns c =
-    five-is (rate (c .before .before .before .before .before .before .before .args .x))
-    (c .before .before .before .before .excess .ensures)
-    (c .before .before .before .excess2 .ensures)
-    (c .before .before .excess3 .ensures)
-    (c .before .excess4 .ensures)
-    (c .excess5 .ensures)
+    let after-excess = c .before .before .before .before in
+    let at-start = after-excess .before .before .before in
+    five-is (rate (at-start .args .x)) (after-excess .excess .ensures) (c .before .before .before .excess2 .ensures)
+    (c .before .before .excess3 .ensures) (c .before .excess4 .ensures) (c .excess5 .ensures)
 
 pub rates-spec : {M : Type 1} → statement M
 rates-spec =

@@ -8,11 +8,15 @@ use Rattle.step_payments.proofs.rates.revised_rates.Tie as tie
 returns : tie.Need-returns
 unfolding revisedAt
 returns c =
-    let g = c .before .before .before .before .before .before .before .before .before .before .args in
-    five-is (revisedAt (g .side) (g .t2) (g .own) (g .market))
-    (rw (← c .before .before .before .before .before .before .before .before .before .milder .ensures) (c .before .before .before .before .before .before .before .before .excess .ensures))
-    (rw (← c .before .before .before .before .before .before .before .milder2 .ensures) (c .before .before .before .before .before .before .excess2 .ensures))
-    (rw (← c .before .before .before .before .before .milder3 .ensures) (c .before .before .before .before .excess3 .ensures))
+    let after-excess3 = c .before .before .before .before in
+    let after-excess = after-excess3 .before .before .before .before in
+    let at-start = after-excess .before .before in
+    let g = at-start .args in
+    five-is
+    (revisedAt (g .side) (g .t2) (g .own) (g .market))
+    (rw (← after-excess .before .milder .ensures) (after-excess .excess .ensures))
+    (rw (← after-excess3 .before .before .before .milder2 .ensures) (after-excess3 .before .before .excess2 .ensures))
+    (rw (← after-excess3 .before .milder3 .ensures) (after-excess3 .excess3 .ensures))
     (rw (← c .before .before .before .milder4 .ensures) (c .before .before .excess4 .ensures))
     (rw (← c .before .milder5 .ensures) (c .excess5 .ensures))
 

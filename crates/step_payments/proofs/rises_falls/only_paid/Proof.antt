@@ -8,11 +8,10 @@ use Rattle.step_payments.proofs.rises_falls.only_paid.Tie as tie
 returns : tie.Need-returns
 unfolding onlyPaid
 returns c =
-    five-is (onlyPaid (c .before .before .before .before .before .args .t1) (c .before .before .before .before .before .args .t2))
-    (c .before .before .before .before .if-paid .ensures)
-    (c .before .before .before .if-paid2 .ensures)
-    (c .before .before .if-paid3 .ensures)
-    (c .before .if-paid4 .ensures)
+    let after-if-paid = c .before .before .before .before in
+    let at-start = after-if-paid .before in
+    five-is (onlyPaid (at-start .args .t1) (at-start .args .t2)) (after-if-paid .if-paid .ensures)
+    (c .before .before .before .if-paid2 .ensures) (c .before .before .if-paid3 .ensures) (c .before .if-paid4 .ensures)
     (c .if-paid5 .ensures)
 
 pub only-paid-spec : {M : Type 1} → statement M

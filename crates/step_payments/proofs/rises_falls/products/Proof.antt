@@ -8,11 +8,10 @@ use Rattle.step_payments.proofs.rises_falls.products.Tie as tie
 returns : tie.Need-returns
 unfolding productIn
 returns c =
-    five-is (productIn (c .before .before .before .before .before .args .t1) (c .before .before .before .before .before .args .t2))
-    (c .before .before .before .before .product .ensures)
-    (c .before .before .before .product2 .ensures)
-    (c .before .before .product3 .ensures)
-    (c .before .product4 .ensures)
+    let after-product = c .before .before .before .before in
+    let at-start = after-product .before in
+    five-is (productIn (at-start .args .t1) (at-start .args .t2)) (after-product .product .ensures)
+    (c .before .before .before .product2 .ensures) (c .before .before .product3 .ensures) (c .before .product4 .ensures)
     (c .product5 .ensures)
 
 pub products-spec : {M : Type 1} → statement M

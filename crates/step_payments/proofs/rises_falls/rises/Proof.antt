@@ -10,12 +10,9 @@ use Rattle.step_payments.proofs.rises_falls.rises.Tie as tie
 returns : tie.Need-returns
 unfolding rise earlier before
 returns c =
-    five-is (rise (c .before .before .before .before .args .t1))
-    (omega arith)
-    (c .before .before .before .saturating-sub .ensures)
-    (c .before .before .saturating-sub2 .ensures)
-    (c .before .saturating-sub3 .ensures)
-    (c .saturating-sub4 .ensures)
+    let at-start = c .before .before .before .before in
+    five-is (rise (at-start .args .t1)) (omega arith) (c .before .before .before .saturating-sub .ensures)
+    (c .before .before .saturating-sub2 .ensures) (c .before .saturating-sub3 .ensures) (c .saturating-sub4 .ensures)
 
 pub rises-spec : {M : Type 1} → statement M
 rises-spec =

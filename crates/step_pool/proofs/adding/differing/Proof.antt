@@ -8,11 +8,10 @@ use Rattle.step_pool.proofs.adding.differing.Tie as tie
 returns : tie.Need-returns
 unfolding differIn
 returns c =
-    five-is (differIn (c .before .before .before .before .before .args .t1) (c .before .before .before .before .before .args .t2))
-    (c .before .before .before .before .differ .ensures)
-    (c .before .before .before .differ2 .ensures)
-    (c .before .before .differ3 .ensures)
-    (c .before .differ4 .ensures)
+    let after-differ = c .before .before .before .before in
+    let at-start = after-differ .before in
+    five-is (differIn (at-start .args .t1) (at-start .args .t2)) (after-differ .differ .ensures)
+    (c .before .before .before .differ2 .ensures) (c .before .before .differ3 .ensures) (c .before .differ4 .ensures)
     (c .differ5 .ensures)
 
 pub differing-spec : {M : Type 1} → statement M

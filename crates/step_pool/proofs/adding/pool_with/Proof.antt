@@ -9,31 +9,54 @@ use Rattle.step_pool.proofs.adding.pool_with.Statement.{statement}
 use Rattle.step_pool.proofs.adding.pool_with.Tie as tie
 
 returns : tie.Need-returns
-returns c = pool-idle (c .before .before .args .x) (idle-unpaid (c .before .before .args .x) (sym (c .if1 .taken) ∙ c .before .unpaid .ensures)) _ (c .before .before .pre .2)
+returns c =
+    let at-start = c .before .before in
+    pool-idle (at-start .args .x) (idle-unpaid (at-start .args .x) (sym (c .if1 .taken) ∙ c .before .unpaid .ensures)) _
+    (at-start .pre .2)
 
 returns-2 : tie.Need-returns-2
-returns-2 c = pool-idle (c .before .before .before .before .args .x) (idle-unconstrained (c .before .before .before .before .args .x) (sym (c .if2 .taken) ∙ c .before .unconstrained .ensures)) _ (c .before .before .before .before .pre .2)
+returns-2 c =
+    let at-start = c .before .before .before .before in
+    pool-idle (at-start .args .x)
+    (idle-unconstrained (at-start .args .x) (sym (c .if2 .taken) ∙ c .before .unconstrained .ensures)) _ (at-start .pre .2)
 
 changes-on-requires : tie.Need-changes-on-requires
 changes-on-requires c κs = (c .before .constrained-on .ensures, c .rates .ensures)
 
 kept-pool-requires : tie.Need-kept-pool-requires
-kept-pool-requires c κs = (c .before .before .before .changes-on .ensures, kept-row (c .before .before .before .before .before .before .before .before .before .before .args .x) _ (of-minus (c .before .before .before .before .before .before .before .before .before .before .args .x) _ (c .before .before .before .changes-on .ensures)) (sym (c .if3 .taken) ∙ c .before .all-zero .ensures))
+kept-pool-requires c κs =
+    let after-changes-on = c .before .before .before in
+    let at-start = after-changes-on .before .before .before .before .before .before .before in
+    let x = at-start .args .x in
+    let kept-row′ = kept-row x _ (of-minus x _ (after-changes-on .changes-on .ensures))
+    (sym (c .if3 .taken) ∙ c .before .all-zero .ensures) in
+    (after-changes-on .changes-on .ensures, kept-row′)
 
 pool-add-requires : tie.Need-pool-add-requires
-pool-add-requires c κs = rw (c .kept-pool .ensures) (c .before .before .before .before .before .before .before .before .before .before .before .pre .1)
+pool-add-requires c κs =
+    let at-start = c .before .before .before .before .before .before .before .before .before .before .before in
+    rw (c .kept-pool .ensures) (at-start .pre .1)
 
 returns-3 : tie.Need-returns-3
-returns-3 c = c .pool-add .ensures ∙ ap (poolSum (c .before .before .before .before .before .before .before .before .before .before .before .before .args .p)) (c .before .kept-pool .ensures)
+returns-3 c =
+    let at-start = c .before .before .before .before .before .before .before .before .before .before .before .before in
+    c .pool-add .ensures ∙ ap (poolSum (at-start .args .p)) (c .before .kept-pool .ensures)
 
 full-pool-requires : tie.Need-full-pool-requires
-full-pool-requires c κs = (c .before .before .before .before .before .before .before .before .before .before .pre .0, c .before .before .before .before .before .constrained-on .ensures, c .before .before .before .changes-on .ensures)
+full-pool-requires c κs =
+    let after-constrained-on = c .before .before .before .before .before in
+    let at-start = after-constrained-on .before .before .before .before .before in
+    (at-start .pre .0, after-constrained-on .constrained-on .ensures, c .before .before .before .changes-on .ensures)
 
 pool-add-requires-2 : tie.Need-pool-add-requires-2
-pool-add-requires-2 c κs = rw (c .full-pool .ensures) (c .before .before .before .before .before .before .before .before .before .before .before .pre .1)
+pool-add-requires-2 c κs =
+    let at-start = c .before .before .before .before .before .before .before .before .before .before .before in
+    rw (c .full-pool .ensures) (at-start .pre .1)
 
 returns-4 : tie.Need-returns-4
-returns-4 c = c .pool-add2 .ensures ∙ ap (poolSum (c .before .before .before .before .before .before .before .before .before .before .before .before .args .p)) (c .before .full-pool .ensures)
+returns-4 c =
+    let at-start = c .before .before .before .before .before .before .before .before .before .before .before .before in
+    c .pool-add2 .ensures ∙ ap (poolSum (at-start .args .p)) (c .before .full-pool .ensures)
 
 pub pool-with-spec : {M : Type 1} → statement M
 pool-with-spec =

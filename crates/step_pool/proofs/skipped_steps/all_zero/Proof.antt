@@ -5,7 +5,9 @@ use Rattle.step_pool.proofs.skipped_steps.all_zero.Statement.{statement
 use Rattle.step_pool.proofs.skipped_steps.all_zero.Tie as tie
 
 returns : tie.Need-returns
-returns c = none-is _ _ _ _ _ (c .before .before .before .greater64 .ensures) (c .before .before .greater642 .ensures) (c .before .greater643 .ensures) (c .greater644 .ensures)
+returns c =
+    none-is _ _ _ _ _ (c .before .before .before .greater64 .ensures) (c .before .before .greater642 .ensures)
+    (c .before .greater643 .ensures) (c .greater644 .ensures)
 
 pub all-zero-spec : {M : Type 1} → statement M
 all-zero-spec =

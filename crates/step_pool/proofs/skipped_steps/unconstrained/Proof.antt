@@ -5,10 +5,15 @@ use Rattle.step_pool.proofs.skipped_steps.unconstrained.Statement.{stat
 use Rattle.step_pool.proofs.skipped_steps.unconstrained.Tie as tie
 
 returns : tie.Need-returns
-returns c = within-is (c .before .before .before .before .before .args .x) _ (c .before .before .least .ensures) (c .if1 .taken)
+returns c =
+    let at-start = c .before .before .before .before .before in
+    within-is (at-start .args .x) _ (c .before .before .least .ensures) (c .if1 .taken)
 
 returns-2 : tie.Need-returns-2
-returns-2 c = past-is (c .before .before .before .before .before .before .before .args .x) _ _ (c .before .before .before .before .least .ensures) (c .before .before .if1 .left) (c .before .most .ensures)
+returns-2 c =
+    let after-least = c .before .before .before .before in
+    let at-start = after-least .before .before .before in
+    past-is (at-start .args .x) _ _ (after-least .least .ensures) (c .before .before .if1 .left) (c .before .most .ensures)
 
 pub unconstrained-spec : {M : Type 1} → statement M
 unconstrained-spec =

@@ -8,15 +8,18 @@ use Rattle.step_quantities.proofs.agino.agino.Tie as tie
 
 returns : tie.Need-returns
 returns c =
-    let o = c .before .before .before .before .before .before .before .before .before .before .args .t1 in
-    let a = c .before .before .before .before .before .before .before .before .before .before .args .a in
-    let last = c .before .before .before .before .before .before .before .before .before .saturating-sub .ensures in
-    let l₃ = least-step o 3 0 (least-last o 4) (c .before .before .before .before .before .before .before .before .lesser .ensures) in
-    let l₂ = least-step o 2 1 l₃ (c .before .before .before .before .before .before .before .lesser2 .ensures) in
-    let l₁ = least-step o 1 2 l₂ (c .before .before .before .before .before .before .lesser3 .ensures) in
-    let l₀ = least-step o 0 3 l₁ (c .before .before .before .before .before .lesser4 .ensures) in
+    let after-carried-back = c .before .before .before .before in
+    let after-lesser = after-carried-back .before .before .before .before in
+    let at-start = after-lesser .before .before in
+    let o = at-start .args .t1 in
+    let a = at-start .args .a in
+    let last = after-lesser .before .saturating-sub .ensures in
+    let l₃ = least-step o 3 0 (least-last o 4) (after-lesser .lesser .ensures) in
+    let l₂ = least-step o 2 1 l₃ (after-carried-back .before .before .before .lesser2 .ensures) in
+    let l₁ = least-step o 1 2 l₂ (after-carried-back .before .before .lesser3 .ensures) in
+    let l₀ = least-step o 0 3 l₁ (after-carried-back .before .lesser4 .ensures) in
     five-is (agino o a)
-    (agino-at o a 0 last l₀ (c .before .before .before .before .carried-back .ensures))
+    (agino-at o a 0 last l₀ (after-carried-back .carried-back .ensures))
     (agino-at o a 1 last l₁ (c .before .before .before .carried-back2 .ensures))
     (agino-at o a 2 last l₂ (c .before .before .carried-back3 .ensures))
     (agino-at o a 3 last l₃ (c .before .carried-back4 .ensures))

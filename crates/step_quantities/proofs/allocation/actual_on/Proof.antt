@@ -1,5 +1,4 @@
 -- `step_quantities::allocation::actual_on` meets its contract.
-use borrow.Author.Needs.{needs}
 use Rattle.rules.specs.Payments.{actualOn}
 use Rattle.step_quantities.proofs.allocation.actual_on.Statement.{statement}
 use Rattle.step_quantities.proofs.allocation.actual_on.Tie as tie

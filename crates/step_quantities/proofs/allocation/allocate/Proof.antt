@@ -1,5 +1,4 @@
 -- `step_quantities::allocation::allocate` meets its contract.
-use borrow.Author.Needs.{needs}
 use Rattle.rules.specs.Quantities.{allocated}
 use Rattle.step_quantities.proofs.allocation.allocate.Statement.{statement}
 use Rattle.step_quantities.proofs.allocation.allocate.Tie as tie

@@ -8,12 +8,11 @@ use Rattle.step_quantities.proofs.allocation.allocate_all.Tie as tie
 returns : tie.Need-returns
 unfolding allocatedIn
 returns c =
-    five-is (allocatedIn (c .before .before .before .before .before .args .t1) (c .before .before .before .before .before .args .l) (c .before .before .before .before .before .args .u))
-    (c .before .before .before .before .allocate .ensures)
-    (c .before .before .before .allocate2 .ensures)
-    (c .before .before .allocate3 .ensures)
-    (c .before .allocate4 .ensures)
-    (c .allocate5 .ensures)
+    let after-allocate = c .before .before .before .before in
+    let at-start = after-allocate .before in
+    let allocatedIn′ = allocatedIn (at-start .args .t1) (at-start .args .l) (at-start .args .u) in
+    five-is allocatedIn′ (after-allocate .allocate .ensures) (c .before .before .before .allocate2 .ensures)
+    (c .before .before .allocate3 .ensures) (c .before .allocate4 .ensures) (c .allocate5 .ensures)
 
 pub allocate-all-spec : {M : Type 1} → statement M
 allocate-all-spec =

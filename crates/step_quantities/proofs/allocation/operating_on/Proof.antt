@@ -1,5 +1,4 @@
 -- `step_quantities::allocation::operating_on` meets its contract.
-use borrow.Author.Needs.{needs}
 use Rattle.rules.specs.Payments.{operatingOn}
 use Rattle.step_quantities.specs.Rows.{allocatedIn}
 use Rattle.step_quantities.proofs.allocation.operating_on.Statement.{statement}

@@ -1,5 +1,4 @@
 -- `step_quantities::allocation::pricing_on` meets its contract.
-use borrow.Author.Needs.{needs}
 use Rattle.rules.specs.Payments.{pricingOn}
 use Rattle.step_quantities.specs.Rows.{allocatedIn}
 use Rattle.step_quantities.proofs.allocation.pricing_on.Statement.{statement}

@@ -1,5 +1,4 @@
 -- `step_quantities::constrained::agino_on` meets its contract.
-use borrow.Author.Needs.{needs}
 use Rattle.rules.specs.Payments.{aginoOn}
 use Rattle.step_quantities.proofs.constrained.agino_on.Statement.{statement}
 use Rattle.step_quantities.proofs.constrained.agino_on.Tie as tie

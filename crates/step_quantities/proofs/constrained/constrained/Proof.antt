@@ -8,12 +8,13 @@ use Rattle.step_quantities.proofs.constrained.constrained.Tie as tie
 returns : tie.Need-returns
 unfolding constrained
 returns c =
-    five-is (constrained (c .before .before .before .before .before .args .t1) (c .before .before .before .before .before .args .t2) (c .before .before .before .before .before .args .t3))
-    (c .before .before .before .before .constrained-in .ensures)
+    let after-constrained-in = c .before .before .before .before in
+    let at-start = after-constrained-in .before in
+    let constrained′ = constrained (at-start .args .t1) (at-start .args .t2) (at-start .args .t3) in
+    five-is constrained′
+    (after-constrained-in .constrained-in .ensures)
     (c .before .before .before .constrained-in2 .ensures)
-    (c .before .before .constrained-in3 .ensures)
-    (c .before .constrained-in4 .ensures)
-    (c .constrained-in5 .ensures)
+    (c .before .before .constrained-in3 .ensures) (c .before .constrained-in4 .ensures) (c .constrained-in5 .ensures)
 
 pub constrained-spec : {M : Type 1} → statement M
 constrained-spec =

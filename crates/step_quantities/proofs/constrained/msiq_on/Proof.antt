@@ -1,5 +1,4 @@
 -- `step_quantities::constrained::msiq_on` meets its contract.
-use borrow.Author.Needs.{needs}
 use Rattle.rules.specs.Payments.{msiqOn}
 use Rattle.step_quantities.proofs.constrained.msiq_on.Statement.{statement}
 use Rattle.step_quantities.proofs.constrained.msiq_on.Tie as tie

@@ -9,7 +9,8 @@ use Rattle.step_quantities.proofs.msiq.msiq.Tie as tie
 returns : tie.Need-returns
 unfolding msiq
 returns c =
-    let g = c .before .before .before .before .args in
+    let at-start = c .before .before .before .before in
+    let g = at-start .args in
     let q₄ = msiq-last (g .side) (g .t2) (g .t3) (g .t4) 4 in
     let q₃ = msiq-step (g .side) (g .t2) (g .t3) (g .t4) 3 0 q₄ (c .before .before .before .msiq-before .ensures) in
     let q₂ = msiq-step (g .side) (g .t2) (g .t3) (g .t4) 2 1 q₃ (c .before .before .msiq-before2 .ensures) in

@@ -1,5 +1,4 @@
 -- `step_quantities::msiq::msiq_before` meets its contract.
-use borrow.Author.Needs.{needs}
 use Rattle.step_quantities.proofs.msiq.msiq_before.Statement.{statement}
 use Rattle.step_quantities.proofs.msiq.msiq_before.Tie as tie
 

@@ -45,8 +45,8 @@ returns-2 t c =
 -- the last digit has room
 last-requires : (t : ℕ) → put-decimal-lts.Need-put-byte-requires-2 (put-byte.Asked, put-byte.Learnt, below t, put-decimal.Post) (given t) put-decimal.Post
 last-requires t c κs =
-    let c1 = c .before .before .before .before .before .before .before in
-    omega (arith, decimal-tenth (c1 .args .v) (c1 .fits .v .fits))
+    let at-start = c .before .before .before .before .before .before .before in
+    omega (arith, decimal-tenth (at-start .args .v) (at-start .fits .v .fits))
 
 pub +put-decimal-spec : {M : Type 1} → statement M
 +put-decimal-spec = close μ-put-decimal λ t. put-decimal-lts.spec (put-byte.Asked, put-byte.Learnt, below t, put-decimal.Post)

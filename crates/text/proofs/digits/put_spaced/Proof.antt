@@ -5,7 +5,9 @@ use Rattle.text.proofs.digits.put_spaced.Statement.{statement}
 use Rattle.text.proofs.digits.put_spaced.Tie as tie
 
 returns : tie.Need-returns
-returns c = then (c .before .before .before .before .before .before .put-byte .ensures) (c .before .before .put-decimal .ensures)
+returns c =
+    let after-put-byte = c .before .before .before .before .before .before in
+    then (after-put-byte .put-byte .ensures) (c .before .before .put-decimal .ensures)
 
 pub put-spaced-spec : {M : Type 1} → statement M
 put-spaced-spec =

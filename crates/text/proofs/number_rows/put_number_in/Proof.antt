@@ -16,7 +16,12 @@ abbrev after : ℤ → List ℕ
 after z = space ++ signedDecimal z
 
 returns : tie.Need-returns
-returns c = let v = c .before .before .before .before .before .before .args .t3 in let s = c .before .before .before .before .before .before .args .s in written-as (number-is (atZ v) s) (own after (atZ v s) (array-fits 5 v _ (c .before .before .before .before .before .before .good .1 .1 .0) s) (c .before .before .put-spaced-signed .ensures))
+returns c =
+    let at-start = c .before .before .before .before .before .before in
+    let v = at-start .args .t3 in
+    let s = at-start .args .s in
+    written-as (number-is (atZ v) s)
+    (own after (atZ v s) (array-fits 5 v _ (at-start .good .1 .1 .0) s) (c .before .before .put-spaced-signed .ensures))
 
 pub put-number-in-spec : {M : Type 1} → statement M
 put-number-in-spec =

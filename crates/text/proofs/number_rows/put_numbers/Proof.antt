@@ -21,7 +21,12 @@ loop-holds : tie.Need-loop-holds Inv-loop μ-loop
 loop-holds c = (search needs, search needs, row-none _ _ 22 _)
 
 loop-again : tie.Need-loop-again Inv-loop μ-loop
-loop-again c = (search needs, search needs, row-more (numberAfter (atZ (c .before .before .before .before .before .before .before .args .v))) 22 (c .before .before .before .before .before .loop .s) (c .before .before .before .before .before .loop .inv .2) (c .before .before .put-number-in .ensures))
+loop-again c =
+    let at-loop = c .before .before .before .before .before in
+    let at-start = at-loop .before .before in
+    let row-more′ = row-more (numberAfter (atZ (at-start .args .v))) 22 (at-loop .loop .s) (at-loop .loop .inv .2)
+    (c .before .before .put-number-in .ensures) in
+    (search needs, search needs, row-more′)
 
 returns : tie.Need-returns Inv-loop μ-loop
 unfolding numbers

@@ -26,11 +26,22 @@ put-spaced-requires : tie.Need-put-spaced-requires Inv-loop μ-loop
 put-spaced-requires c κs = search needs
 
 loop-again : tie.Need-loop-again Inv-loop μ-loop
-loop-again c = (search needs, search needs, row-more (wordAfter (now (c .before .before .before .before .before .before .before .before .before .before .args .v))) 21 (c .before .before .before .before .before .before .before .loop .i) (c .before .before .before .before .before .before .before .loop .inv .2) (written-as (ap (λ (x : ℕ). space ++ decimal x) (c .before .before .before .wide .ensures .0) ∙ word-is (now (c .before .before .before .before .before .before .before .before .before .before .args .v)) (c .before .before .before .before .before .before .before .loop .i)) (c .before .before .put-spaced .ensures)))
+loop-again c =
+    let at-loop = c .before .before .before .before .before .before .before in
+    let at-start = at-loop .before .before .before in
+    let v = now (at-start .args .v) in
+    let written-as′ = written-as
+    (ap (λ (x : ℕ). space ++ decimal x) (c .before .before .before .wide .ensures .0) ∙ word-is v (at-loop .loop .i))
+    (c .before .before .put-spaced .ensures) in
+    (search needs, search needs, row-more (wordAfter v) 21 (at-loop .loop .i) (at-loop .loop .inv .2) written-as′)
 
 returns : tie.Need-returns Inv-loop μ-loop
 unfolding words
-returns c = let e : c .before .loop .i ≡ length (now (c .before .before .before .before .args .v)) = omega arith in rw e at (c .before .loop .inv .2)
+returns c =
+    let at-loop = c .before in
+    let at-start = at-loop .before .before .before in
+    let e : at-loop .loop .i ≡ length (now (at-start .args .v)) = omega arith in
+    rw e at (at-loop .loop .inv .2)
 
 pub put-words-spec : {M : Type 1} → statement M
 put-words-spec =

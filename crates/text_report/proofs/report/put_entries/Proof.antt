@@ -27,10 +27,12 @@ loop-again c =
 
 returns : tie.Need-returns Inv-loop μ-loop
 returns c =
-    let n = c .before .before .before .before .args .n in
-    let k = c .before .loop .k in
+    let at-loop = c .before in
+    let at-start = at-loop .before .before .before in
+    let n = at-start .args .n in
+    let k = at-loop .loop .k in
     let e : k ≡ n = omega arith in
-    rw e at (c .before .loop .inv .2)
+    rw e at (at-loop .loop .inv .2)
 
 pub put-entries-spec : {M : Type 1} → statement M
 put-entries-spec =

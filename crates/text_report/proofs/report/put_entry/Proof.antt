@@ -8,16 +8,13 @@ use Rattle.text_report.proofs.report.put_entry.Tie as tie
 
 returns : tie.Need-returns
 returns c =
-    let c1 = c .before .before in
-    let c2 = c1 .before in
-    let c3 = c2 .before in
-    let c4 = c3 .before in
-    let c5 = c4 .before in
-    let c6 = c5 .before .before in
-    let c7 = c6 .before .before .before in
-    written-as
-    (entry-is (now (c7 .args .book)) (c7 .args .k) (c5 .word-at .ensures) (c4 .word-at2 .ensures) (c3 .word-at3 .ensures) (c2 .word-at4 .ensures) (c6 .five-at .ensures))
-    (c1 .put-line .ensures)
+    let after-word-at3 = c .before .before .before .before in
+    let after-five-at = after-word-at3 .before .before .before .before in
+    let at-start = after-five-at .before .before .before in
+    let entry-is′ = entry-is (now (at-start .args .book)) (at-start .args .k)
+    (after-word-at3 .before .before .word-at .ensures) (after-word-at3 .before .word-at2 .ensures)
+    (after-word-at3 .word-at3 .ensures) (c .before .before .before .word-at4 .ensures) (after-five-at .five-at .ensures) in
+    written-as entry-is′ (c .before .before .put-line .ensures)
 
 pub put-entry-spec : {M : Type 1} → statement M
 put-entry-spec =

@@ -19,20 +19,23 @@ returns-3 : tie.Need-returns-3
 returns-3 c = written-nothing _ _ (report-none _ _ _ (c .before .before .if1 .left) (c .before .if2 .left) (search needs))
 
 returns-4 : tie.Need-returns-4
-returns-4 c = written-nothing _ _ (report-many _ _ _ (c .before .before .before .before .if1 .left) (c .before .before .before .if2 .left) (search needs))
+returns-4 c =
+    let in-else1 = c .before .before .before .before in
+    written-nothing _ _ (report-many _ _ _ (in-else1 .if1 .left) (c .before .before .before .if2 .left) (search needs))
 
 returns-5 : tie.Need-returns-5
 returns-5 c =
-    let c1 = c .before .before .before .before in
-    let c2 = c1 .before in
-    written-nothing _ _ (report-none _ _ _ (c2 .if1 .left) (c1 .if2 .left) (search needs))
+    let in-else2 = c .before .before .before .before in
+    written-nothing _ _ (report-none _ _ _ (in-else2 .before .if1 .left) (in-else2 .if2 .left) (search needs))
 
 returns-6 : tie.Need-returns-6
 returns-6 c =
-    let c1 = c .before .before in
-    let c2 = c1 .before .before .before .before .before .before in
-    let c3 = c2 .before in
-    written-wider reportMost _ (written-as (report-book _ _ _ (c3 .if1 .left) (c2 .if2 .left) (search needs) (search needs)) (c1 .put-book .ensures)) (c3 .if1 .left)
+    let in-else2 = c .before .before .before .before .before .before .before .before in
+    let in-else1 = in-else2 .before in
+    let written-as′ = written-as
+    (report-book _ _ _ (in-else1 .if1 .left) (in-else2 .if2 .left) (search needs) (search needs))
+    (c .before .before .put-book .ensures) in
+    written-wider reportMost _ written-as′ (in-else1 .if1 .left)
 
 pub report-spec : {M : Type 1} → statement M
 report-spec =

@@ -15,7 +15,9 @@ abbrev μ-loop : tie.MeasureT-loop
 μ-loop day out₀ k₀ out k = 64 - k
 
 slice-aggregate-write-all : tie.Need-slice-aggregate-write-all Inv-loop μ-loop
-slice-aggregate-write-all c = sym (length-take-le _ _ (omega (arith, c .before .before .before .part .ensures .most, c .before .before .before .part .ensures .end)))
+slice-aggregate-write-all c =
+    let after-part = c .before .before .before in
+    sym (length-take-le _ _ (omega (arith, after-part .part .ensures .most, after-part .part .ensures .end)))
 
 pub print-parts-spec : {M : Type 1} → statement M
 print-parts-spec =

@@ -11,35 +11,52 @@ use Rattle.text_steps.proofs.steps_text.put_line.Statement.{statement}
 use Rattle.text_steps.proofs.steps_text.put_line.Tie as tie
 
 line-of-requires : tie.Need-line-of-requires
-line-of-requires c κs = line-lies (now (c .before .before .args .day)) (c .before .before .pre .0) (c .before .before .args .k) (c .before .before .pre .1)
+line-of-requires c κs =
+    let at-start = c .before .before in
+    line-lies (now (at-start .args .day)) (at-start .pre .0) (at-start .args .k) (at-start .pre .1)
 
 steps-requires : tie.Need-steps-requires
-steps-requires c κs = lent-line (now (c .before .before .before .args .day)) (c .before .before .before .pre .0) (c .before .before .before .args .k) (c .before .before .before .pre .1) _ (c .line-of .ensures)
+steps-requires c κs =
+    let at-start = c .before .before .before in
+    lent-line (now (at-start .args .day)) (at-start .pre .0) (at-start .args .k) (at-start .pre .1) _ (c .line-of .ensures)
 
 put-line-head-requires : tie.Need-put-line-head-requires
 put-line-head-requires c κs =
-    let d = now (c .before .before .before .before .before .args .day) in
-    let a = c .before .before .before .before .before .pre .0 in
-    let k = c .before .before .before .before .before .args .k in
-    let l = c .before .before .before .before .before .pre .1 in
-    (lent-length d a k l _ (c .before .before .line-of .ensures), count-is d a k l _ (c .before .before .line-of .ensures) _ (c .before .steps .ensures) ∙ ap stepCount (sym (c .before .before .line-of .ensures)), search needs)
+    let at-start = c .before .before .before .before .before in
+    let line-of-ensures = c .before .before .line-of .ensures in
+    let d = now (at-start .args .day) in
+    let a = at-start .pre .0 in
+    let k = at-start .args .k in
+    let l = at-start .pre .1 in (
+      lent-length d a k l _ line-of-ensures,
+      count-is d a k l _ line-of-ensures _ (c .before .steps .ensures) ∙ ap stepCount (sym line-of-ensures),
+      search needs,
+    )
 
 put-steps-requires : tie.Need-put-steps-requires
 put-steps-requires c κs =
-    let d = now (c .before .before .before .before .before .before .before .before .before .args .day) in
-    let few = count-few d (c .before .before .before .before .before .before .before .before .before .pre .0) (c .before .before .before .before .before .before .before .before .before .args .k) (c .before .before .before .before .before .before .before .before .before .pre .1) _ (c .before .before .before .before .before .before .line-of .ensures) _ (c .before .before .before .before .before .steps .ensures) in
-    omega (arith, few, c .before .before .before .before .before .before .before .before .before .pre .2, c .before .before .before .put-line-head .ensures .most, c .before .before .before .put-line-head .ensures .end)
+    let after-put-line-head = c .before .before .before in
+    let at-start = after-put-line-head .before .before .before .before .before .before in
+    let d = now (at-start .args .day) in
+    let few = count-few d (at-start .pre .0) (at-start .args .k) (at-start .pre .1) _
+    (after-put-line-head .before .before .before .line-of .ensures) _
+    (after-put-line-head .before .before .steps .ensures) in
+    omega (arith, few, at-start .pre .2, after-put-line-head .put-line-head .ensures .most, after-put-line-head .put-line-head .ensures .end)
 
 returns : tie.Need-returns
 returns c =
-    let d = now (c .before .before .before .before .before .before .before .before .before .before .before .before .args .day) in
-    let a = c .before .before .before .before .before .before .before .before .before .before .before .before .pre .0 in
-    let k = c .before .before .before .before .before .before .before .before .before .before .before .before .args .k in
-    let l = c .before .before .before .before .before .before .before .before .before .before .before .before .pre .1 in
-    let few = count-few d a k l _ (c .before .before .before .before .before .before .before .before .before .line-of .ensures) _ (c .before .before .before .before .before .before .before .before .steps .ensures) in
+    let after-put-line-head = c .before .before .before .before .before .before in
+    let after-steps = after-put-line-head .before .before in
+    let at-start = after-steps .before .before .before .before in
+    let line-of-ensures = after-steps .before .line-of .ensures in
+    let then′ = then (after-put-line-head .put-line-head .ensures) (c .before .before .put-steps .ensures) in
+    let d = now (at-start .args .day) in
+    let a = at-start .pre .0 in
+    let k = at-start .args .k in
+    let l = at-start .pre .1 in
+    let few = count-few d a k l _ line-of-ensures _ (after-steps .steps .ensures) in
     written-wider _ 88965
-    (written-as (line-is d k (c .before .before .before .before .before .before .before .before .before .line-of .ensures) (count-is d a k l _ (c .before .before .before .before .before .before .before .before .before .line-of .ensures) _ (c .before .before .before .before .before .before .before .before .steps .ensures)))
-    (then (c .before .before .before .before .before .before .put-line-head .ensures) (c .before .before .put-steps .ensures)))
+    (written-as (line-is d k line-of-ensures (count-is d a k l _ line-of-ensures _ (after-steps .steps .ensures))) then′)
     (omega (arith, few))
 
 pub put-line-spec : {M : Type 1} → statement M

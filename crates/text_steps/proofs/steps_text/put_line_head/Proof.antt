@@ -8,8 +8,18 @@ use Rattle.text_steps.proofs.steps_text.put_line_head.Tie as tie
 
 returns : tie.Need-returns
 returns c =
-    written-as (head-is _ (now (c .before .before .before .before .before .before .before .before .before .before .before .before .before .before .before .before .before .before .before .before .before .before .before .before .before .before .before .before .before .before .args .line)) (c .before .before .before .before .before .before .before .before .before .before .before .before .before .word-at .ensures) (c .before .before .before .before .before .before .before .before .before .before .before .before .word-at2 .ensures) (c .before .before .before .before .before .before .before .word-at3 .ensures) (c .before .before .before .before .before .before .before .before .before .before .before .before .before .before .before .before .before .before .before .before .before .before .before .before .before .before .before .before .before .before .pre .1))
-    (then (then (then (then (then (c .before .before .before .before .before .before .before .before .before .before .before .before .before .before .before .before .before .before .before .before .before .before .before .before .before .put-bytes .ensures) (c .before .before .before .before .before .before .before .before .before .before .before .before .before .before .before .before .before .before .before .before .before .put-decimal .ensures)) (c .before .before .before .before .before .before .before .before .before .before .before .before .before .before .before .before .before .put-byte .ensures)) (c .before .before .before .before .before .before .before .before .before .before .before .put-ids .ensures)) (c .before .before .before .before .before .before .put-side-steps .ensures)) (c .before .before .put-byte2 .ensures))
+    let after-put-side-steps = c .before .before .before .before .before .before in
+    let after-put-ids = after-put-side-steps .before .before .before .before .before in
+    let after-put-byte = after-put-ids .before .before .before .before .before .before in
+    let after-put-decimal = after-put-byte .before .before .before .before in
+    let after-put-bytes = after-put-decimal .before .before .before .before in
+    let at-start = after-put-bytes .before .before .before .before .before in
+    let head-is′ = head-is _ (now (at-start .args .line)) (after-put-ids .before .before .word-at .ensures)
+    (after-put-ids .before .word-at2 .ensures) (after-put-side-steps .before .word-at3 .ensures) (at-start .pre .1) in
+    let then₁ = then (after-put-bytes .put-bytes .ensures) (after-put-decimal .put-decimal .ensures) in
+    let then₂ = then (then then₁ (after-put-byte .put-byte .ensures)) (after-put-ids .put-ids .ensures) in
+    let then₃ = then (then then₂ (after-put-side-steps .put-side-steps .ensures)) (c .before .before .put-byte2 .ensures) in
+    written-as head-is′ then₃
 
 pub put-line-head-spec : {M : Type 1} → statement M
 put-line-head-spec =

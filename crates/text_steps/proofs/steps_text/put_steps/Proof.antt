@@ -23,12 +23,22 @@ loop-holds c = (search needs, search needs, row-none _ _ 1587 _)
 
 loop-again : tie.Need-loop-again Inv-loop μ-loop
 loop-again c =
-    let d = now (c .before .before .before .before .before .before .before .before .before .args .day) in
-    let k = c .before .before .before .before .before .before .before .before .before .args .k in
-    (search needs, search needs, row-more (stepText d k) 1587 (c .before .before .before .before .before .before .loop .j) (c .before .before .before .before .before .before .loop .inv .2) (written-as (step-is d k (c .before .before .before .before .before .before .loop .j) (c .before .before .before .view .ensures)) (c .before .before .put-view .ensures)))
+    let at-loop = c .before .before .before .before .before .before in
+    let at-start = at-loop .before .before .before in
+    let d = now (at-start .args .day) in
+    let k = at-start .args .k in (
+      search needs,
+      search needs,
+      row-more (stepText d k) 1587 (at-loop .loop .j) (at-loop .loop .inv .2)
+          (written-as (step-is d k (at-loop .loop .j) (c .before .before .before .view .ensures)) (c .before .before .put-view .ensures)),
+    )
 
 returns : tie.Need-returns Inv-loop μ-loop
-returns c = let e : c .before .loop .j ≡ c .before .before .before .before .args .count = omega arith in rw e at (c .before .loop .inv .2)
+returns c =
+    let at-loop = c .before in
+    let at-start = at-loop .before .before .before in
+    let e : at-loop .loop .j ≡ at-start .args .count = omega arith in
+    rw e at (at-loop .loop .inv .2)
 
 pub put-steps-spec : {M : Type 1} → statement M
 put-steps-spec =

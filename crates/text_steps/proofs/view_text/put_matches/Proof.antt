@@ -7,7 +7,12 @@ use Rattle.text_steps.proofs.view_text.put_matches.Tie as tie
 
 returns : tie.Need-returns
 unfolding matchesRow
-returns c = written-wider _ 218 (then (then (c .before .before .before .before .before .before .before .before .before .before .before .put-bytes .ensures) (c .before .before .before .before .before .before .put-words .ensures)) (c .before .before .put-byte .ensures)) (search needs)
+returns c =
+    let after-put-words = c .before .before .before .before .before .before in
+    let after-put-bytes = after-put-words .before .before .before .before .before in
+    written-wider _ 218
+    (then (then (after-put-bytes .put-bytes .ensures) (after-put-words .put-words .ensures))
+    (c .before .before .put-byte .ensures)) (search needs)
 
 pub put-matches-spec : {M : Type 1} → statement M
 put-matches-spec =

@@ -7,7 +7,12 @@ use Rattle.text_steps.proofs.view_text.put_payments.Tie as tie
 
 returns : tie.Need-returns
 unfolding paymentsText
-returns c = then (then (then (c .before .before .before .before .before .before .before .before .before .before .before .before .before .before .put-number-in .ensures) (c .before .before .before .before .before .before .before .before .before .before .put-number-in2 .ensures)) (c .before .before .before .before .before .before .put-number-in3 .ensures)) (c .before .before .put-number-in4 .ensures)
+returns c =
+    let after-put-number-in3 = c .before .before .before .before .before .before in
+    let after-put-number-in2 = after-put-number-in3 .before .before .before .before in
+    let after-put-number-in = after-put-number-in2 .before .before .before .before in
+    let then′ = then (after-put-number-in .put-number-in .ensures) (after-put-number-in2 .put-number-in2 .ensures) in
+    then (then then′ (after-put-number-in3 .put-number-in3 .ensures)) (c .before .before .put-number-in4 .ensures)
 
 pub put-payments-spec : {M : Type 1} → statement M
 put-payments-spec =

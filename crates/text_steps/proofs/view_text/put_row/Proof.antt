@@ -8,13 +8,17 @@ use Rattle.text_steps.proofs.view_text.put_row.Tie as tie
 
 returns : tie.Need-returns
 returns c =
-    let v = c .before .before .before .before .before .before .before .before .before .before .before .before .before .before .before .before .before .before .before .args .v in
-    let s = c .before .before .before .before .before .before .before .before .before .before .before .before .before .before .before .before .before .before .before .args .s in
-    let e = seven v s (c .before .before .before .before .before .before .before .before .before .before .before .before .before .before .before .before .before .quantities-in .ensures) in
-    written-wider _ 256
-    (written-as (row-is v s (c .before .before .before .before .before .before .before .before .before .before .before .before .before .before .before .before .before .quantities-in .ensures))
-    (then (then (then (c .before .before .before .before .before .before .before .before .before .before .before .before .before .before .before .put-decimal .ensures) (c .before .before .before .before .before .before .before .before .before .before .put-words .ensures)) (c .before .before .before .before .before .before .put-payments .ensures)) (c .before .before .put-byte .ensures)))
-    (omega (arith, e))
+    let after-put-payments = c .before .before .before .before .before .before in
+    let after-put-words = after-put-payments .before .before .before .before in
+    let after-put-decimal = after-put-words .before .before .before .before .before in
+    let after-quantities-in = after-put-decimal .before .before in
+    let at-start = after-quantities-in .before .before in
+    let then₁ = then (after-put-decimal .put-decimal .ensures) (after-put-words .put-words .ensures) in
+    let then₂ = then (then then₁ (after-put-payments .put-payments .ensures)) (c .before .before .put-byte .ensures) in
+    let v = at-start .args .v in
+    let s = at-start .args .s in
+    let e = seven v s (after-quantities-in .quantities-in .ensures) in
+    written-wider _ 256 (written-as (row-is v s (after-quantities-in .quantities-in .ensures)) then₂) (omega (arith, e))
 
 pub put-row-spec : {M : Type 1} → statement M
 put-row-spec =

@@ -20,7 +20,13 @@ loop-holds : tie.Need-loop-holds Inv-loop μ-loop
 loop-holds c = (search needs, search needs, row-none _ _ 256 _)
 
 loop-again : tie.Need-loop-again Inv-loop μ-loop
-loop-again c = (search needs, search needs, row-more (scheduleRow (c .before .before .before .before .before .before .before .args .v)) 256 (c .before .before .before .before .before .loop .s) (c .before .before .before .before .before .loop .inv .2) (c .before .before .put-row .ensures))
+loop-again c =
+    let at-loop = c .before .before .before .before .before in
+    let at-start = at-loop .before .before in (
+      search needs,
+      search needs,
+      row-more (scheduleRow (at-start .args .v)) 256 (at-loop .loop .s) (at-loop .loop .inv .2) (c .before .before .put-row .ensures),
+    )
 
 returns : tie.Need-returns Inv-loop μ-loop
 returns c = let e : c .before .loop .s ≡ 5 = omega arith in rw e at (c .before .loop .inv .2)

@@ -7,7 +7,12 @@ use Rattle.text_steps.proofs.view_text.put_step_head.Tie as tie
 
 returns : tie.Need-returns
 unfolding stepHead
-returns c = then (then (then (c .before .before .before .before .before .before .before .before .before .before .before .before .before .before .before .put-bytes .ensures) (c .before .before .before .before .before .before .before .before .before .before .before .put-decimal .ensures)) (c .before .before .before .before .before .before .put-words .ensures)) (c .before .before .put-byte .ensures)
+returns c =
+    let after-put-words = c .before .before .before .before .before .before in
+    let after-put-decimal = after-put-words .before .before .before .before .before in
+    let after-put-bytes = after-put-decimal .before .before .before .before in
+    let then′ = then (after-put-bytes .put-bytes .ensures) (after-put-decimal .put-decimal .ensures) in
+    then (then then′ (after-put-words .put-words .ensures)) (c .before .before .put-byte .ensures)
 
 pub put-step-head-spec : {M : Type 1} → statement M
 put-step-head-spec =

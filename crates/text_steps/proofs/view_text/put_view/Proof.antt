@@ -7,7 +7,11 @@ use Rattle.text_steps.proofs.view_text.put_view.Tie as tie
 
 returns : tie.Need-returns
 unfolding viewText
-returns c = then (then (c .before .before .before .before .before .before .before .before .before .before .put-step-head .ensures) (c .before .before .before .before .before .before .put-rows .ensures)) (c .before .before .put-matches .ensures)
+returns c =
+    let after-put-rows = c .before .before .before .before .before .before in
+    let after-put-step-head = after-put-rows .before .before .before .before in
+    then (then (after-put-step-head .put-step-head .ensures) (after-put-rows .put-rows .ensures))
+    (c .before .before .put-matches .ensures)
 
 pub put-view-spec : {M : Type 1} → statement M
 put-view-spec =

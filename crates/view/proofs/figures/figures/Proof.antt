@@ -5,7 +5,20 @@ use Rattle.view.proofs.figures.figures.Statement.{statement}
 use Rattle.view.proofs.figures.figures.Tie as tie
 
 returns : tie.Need-returns
-returns c = figures-are _ _ _ _ _ _ _ _ _ _ _ _ _ _ _ (c .before .before .before .before .before .before .before .before .before .before .width-of .ensures) (c .before .before .before .before .before .before .before .before .before .actual-on .ensures) (c .before .before .before .before .before .before .before .before .operating-on .ensures) (c .before .before .before .before .before .before .before .pricing-on .ensures) (c .before .before .before .before .before .before .agino-on .ensures) (c .before .before .before .before .before .msiq-on .ensures) (c .before .before .before .before .before .before .before .before .before .before .before .constrained-on .ensures) (c .before .before .before .before .ten-matches .ensures) (c .before .before .before .initial .ensures) (c .before .before .revised .ensures) (c .before .modified .ensures) (c .final-payments .ensures)
+returns c =
+    let after-ten-matches = c .before .before .before .before in
+    let after-operating-on = after-ten-matches .before .before .before .before in
+    figures-are _ _ _ _ _ _ _ _ _ _ _ _ _ _ _
+    (after-operating-on .before .before .width-of .ensures)
+    (after-operating-on .before .actual-on .ensures)
+    (after-operating-on .operating-on .ensures)
+    (after-ten-matches .before .before .before .pricing-on .ensures)
+    (after-ten-matches .before .before .agino-on .ensures)
+    (after-ten-matches .before .msiq-on .ensures)
+    (after-operating-on .before .before .before .constrained-on .ensures)
+    (after-ten-matches .ten-matches .ensures)
+    (c .before .before .before .initial .ensures) (c .before .before .revised .ensures) (c .before .modified .ensures)
+    (c .final-payments .ensures)
 
 pub figures-spec : {M : Type 1} → statement M
 figures-spec =
