@@ -56,8 +56,17 @@ few c =
     (c .before .before .line-of .ensures) _ (c .steps .ensures)
 
 -- the step is put together
-built : (c : tie.After-step-of Inv-loop μ-loop)
-    → let at-start = c .before .before .before .before .before .before .before .before .before .before .before .before .before in c .step-of .result ≡ stepOf (now (at-start .args .day)) (at-start .args .k) (c .before .before .before .before .before .loop .j)
+abbrev start : tie.After-step-of Inv-loop μ-loop → tie.Start Inv-loop μ-loop
+start c =
+    let at-loop = c .before .before .before .before .before in
+    let after-steps = at-loop .before .before .before .before in
+    let at-start = after-steps .before .before .before .before in
+    at-start
+
+abbrev turn : tie.After-step-of Inv-loop μ-loop → ℕ
+turn c = let at-loop = c .before .before .before .before .before in at-loop .loop .j
+
+built : (c : tie.After-step-of Inv-loop μ-loop) → c .step-of .result ≡ stepOf (now (start c .args .day)) (start c .args .k) (turn c)
 built c =
     let at-loop = c .before .before .before .before .before in
     let after-steps = at-loop .before .before .before .before in
@@ -68,13 +77,19 @@ built c =
     (c .before .before .price-row .ensures) (c .before .flag-row .ensures) (c .step-of .ensures)
 
 array-read-upper : tie.Need-array-read-upper Inv-loop μ-loop
-array-read-upper c = omega (arith, few (c .before .before .before .before .before))
+array-read-upper c =
+    let after-steps = c .before .before .before .before .before in
+    omega (arith, few after-steps)
 
 price-row-requires : tie.Need-price-row-requires Inv-loop μ-loop
-price-row-requires c κs = omega (arith, few (c .before .before .before .before .before .before))
+price-row-requires c κs =
+    let after-steps = c .before .before .before .before .before .before in
+    omega (arith, few after-steps)
 
 flag-row-requires : tie.Need-flag-row-requires Inv-loop μ-loop
-flag-row-requires c κs = omega (arith, few (c .before .before .before .before .before .before .before))
+flag-row-requires c κs =
+    let after-steps = c .before .before .before .before .before .before .before in
+    omega (arith, few after-steps)
 
 money-with-requires : tie.Need-money-with-requires Inv-loop μ-loop
 money-with-requires c κs =
@@ -97,7 +112,9 @@ money-with-requires c κs =
     (step-sized′, step-payable′, money-addable′, money-whole (at-loop .loop .j) (stepMoney day k) _ (at-loop .loop .inv .2))
 
 add-j : tie.Need-add-j Inv-loop μ-loop
-add-j c = record { fits = omega (arith, c, few (c .before .before .before .before .before .before .before .before .before .before)) }
+add-j c =
+    let after-steps = c .before .before .before .before .before .before .before .before .before .before in
+    record { fits = omega (arith, c, few after-steps) }
 
 loop-again : tie.Need-loop-again Inv-loop μ-loop
 loop-again c =

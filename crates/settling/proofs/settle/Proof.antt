@@ -21,9 +21,14 @@ line-count-requires c κs =
     omega (arith, accepted-day (now (at-start .args .day)) (sym (c .before .day-number .ensures) ∙ c .if1 .left) .header .length-least)
 
 -- an accepted day has at most 64 lines
-count-most : (c : tie.After-line-count) → lineCount (now (c .before .before .before .before .before .args .day)) ≤ 64
+abbrev start : tie.After-line-count → tie.Start
+start c =
+    let after-day-number = c .before .before in
+    after-day-number .before .before .before
+
+count-most : (c : tie.After-line-count) → lineCount (now (start c .args .day)) ≤ 64
 count-most c =
-    accepted-day (now (c .before .before .before .before .before .args .day)) (sym (c .before .before .day-number .ensures) ∙ c .before .if1 .left)
+    accepted-day (now (start c .args .day)) (sym (c .before .before .day-number .ensures) ∙ c .before .if1 .left)
     .header .count-most
 
 mul-if2 : tie.Need-mul-if2

@@ -13,37 +13,49 @@ use Rattle.view.proofs.figures.Laws.{lower-is, pool-there, figures-ther
 use Rattle.view.proofs.view.Statement.{statement}
 use Rattle.view.proofs.view.Tie as tie
 
--- where the day's number is 0
-accepted : (c : tie.Else1) → AcceptedDay (now (c .before .before .before .args .day))
-accepted c = accepted-day (now (c .before .before .before .args .day)) (sym (c .before .day-number .ensures) ∙ c .if1 .left)
+-- the entry, from each place at which something is known of the day, the line or the step
+abbrev from-else1 : tie.Else1 → tie.Start
+from-else1 c = c .before .before .before
 
--- where the day has the line
-below : (c : tie.Else2) → c .before .before .before .before .before .args .line < lineCount (now (c .before .before .before .before .before .args .day))
+abbrev from-else2 : tie.Else2 → tie.Start
+from-else2 c = from-else1 (c .before .before)
+
+abbrev from-else3 : tie.Else3 → tie.Start
+from-else3 c = let in-else2 = c .before .before .before .before in from-else2 in-else2
+
+abbrev from-step-of : tie.After-step-of → tie.Start
+from-step-of c = let in-else3 = c .before .before .before .before .before .before .before .before .before .before .before in from-else3 in-else3
+
+-- the day's number is 0
+accepted : (c : tie.Else1) → AcceptedDay (now (from-else1 c .args .day))
+accepted c = accepted-day (now (from-else1 c .args .day)) (sym (c .before .day-number .ensures) ∙ c .if1 .left)
+
+-- the day has the line
+below : (c : tie.Else2) → from-else2 c .args .line < lineCount (now (from-else2 c .args .day))
 below c = omega (arith, c .before .line-count .ensures, c .if2 .left)
 
 -- the line has at most 56 steps
 few-steps : (c : tie.Else3) → c .before .before .steps .result .count ≤ 56
 few-steps c =
     let in-else2 = c .before .before .before .before in
-    let at-start = in-else2 .before .before .before .before .before in
+    let at-start = from-else2 in-else2 in
     count-few (now (at-start .args .day)) (accepted (in-else2 .before .before)) (at-start .args .line) (below in-else2) _
     (c .before .before .before .line-of .ensures) _ (c .before .before .steps .ensures)
 
--- where the line has the step
-few : (c : tie.Else3) → c .before .before .before .before .before .before .before .before .before .args .step < 56
+-- the line has the step
+few : (c : tie.Else3) → from-else3 c .args .step < 56
 few c = omega (arith, few-steps c, c .if3 .left)
 
 -- the step is put together
 built : (c : tie.After-step-of)
-    → let at-start = c .before .before .before .before .before .before .before .before .before .before .before .before .before .before .before .before .before .before .before .before in
-    c .step-of .result ≡ stepOf (now (at-start .args .day)) (at-start .args .line) (at-start .args .step)
+    → c .step-of .result ≡ stepOf (now (from-step-of c .args .day)) (from-step-of c .args .line) (from-step-of c .args .step)
 built c =
     let after-lower-end = c .before .before .before .before in
     let after-market-of = after-lower-end .before .before .before in
     let in-else3 = after-market-of .before .before .before .before in
     let after-steps = in-else3 .before .before in
     let in-else2 = after-steps .before .before in
-    let at-start = in-else2 .before .before .before .before .before in
+    let at-start = from-else2 in-else2 in
     let day = now (at-start .args .day) in
     let line = at-start .args .line in
     let step = at-start .args .step in
@@ -110,7 +122,9 @@ returns-3 c =
     view-refused day line step _ day-number-ensures _ 17 (c .refused3 .ensures) fault-step′ (λ e. omega arith)
 
 market-of-requires : tie.Need-market-of-requires
-market-of-requires c κs = omega (arith, accepted (c .before .before .before .before .before .before .before .before .before) .header .length-least)
+market-of-requires c κs =
+    let in-else1 = c .before .before .before .before .before .before .before .before .before in
+    omega (arith, accepted in-else1 .header .length-least)
 
 totals-of-requires : tie.Need-totals-of-requires
 totals-of-requires c κs =
@@ -124,21 +138,30 @@ totals-of-requires c κs =
     )
 
 lower-end-requires : tie.Need-lower-end-requires
-lower-end-requires c κs = few (c .before .before .before .before .before .before)
+lower-end-requires c κs =
+    let in-else3 = c .before .before .before .before .before .before in
+    few in-else3
 
 array-read-step-of : tie.Need-array-read-step-of
-array-read-step-of c = omega (arith, few (c .before .before .before .before .before .before .before))
+array-read-step-of c =
+    let in-else3 = c .before .before .before .before .before .before .before in
+    omega (arith, few in-else3)
 
 price-row-requires : tie.Need-price-row-requires
-price-row-requires c κs = few (c .before .before .before .before .before .before .before .before)
+price-row-requires c κs =
+    let in-else3 = c .before .before .before .before .before .before .before .before in
+    few in-else3
 
 flag-row-requires : tie.Need-flag-row-requires
-flag-row-requires c κs = few (c .before .before .before .before .before .before .before .before .before)
+flag-row-requires c κs =
+    let in-else3 = c .before .before .before .before .before .before .before .before .before in
+    few in-else3
 
 pool-for-requires : tie.Need-pool-for-requires
 pool-for-requires c κs =
     let after-market-of = c .before .before .before .before .before .before .before in
-    (accepted (after-market-of .before .before .before .before .before .before .before .before .before .before), after-market-of .market-of .ensures)
+    let in-else1 = after-market-of .before .before .before .before .before .before .before .before .before .before in
+    (accepted in-else1, after-market-of .market-of .ensures)
 
 figures-requires : tie.Need-figures-requires
 figures-requires c κs =

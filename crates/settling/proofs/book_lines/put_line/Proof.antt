@@ -39,10 +39,14 @@ signed-money-requires c κs =
     (c .before .line-paid .ensures .1)
 
 word-at-requires-2 : tie.Need-word-at-requires-2
-word-at-requires-2 c κs = omega (arith, long (c .before .before .before .before .before .before))
+word-at-requires-2 c κs =
+    let after-line-of = c .before .before .before .before .before .before in
+    omega (arith, long after-line-of)
 
 word-at-requires-3 : tie.Need-word-at-requires-3
-word-at-requires-3 c κs = omega (arith, long (c .before .before .before .before .before .before .before))
+word-at-requires-3 c κs =
+    let after-line-of = c .before .before .before .before .before .before .before in
+    omega (arith, long after-line-of)
 
 returns : tie.Need-returns
 returns c =
