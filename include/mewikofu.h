@@ -13,26 +13,56 @@
 extern "C" {
 #endif
 
-/* Numbers. A refusal is the first fault met in the order of document 01's table, "Where each refusal is checked". */
+/* Numbers. A refusal is the first fault met in the order of document 01's table, "Where each refusal is checked". Beside each are its place, which
+   the functions below name, and its condition; n is the day's line count, M the greatest break of a line's bids. */
 #define MEWIKOFU_ACCEPTED 0
-#define MEWIKOFU_FILE_SHORT 1            /* header: under 64 bytes */
-#define MEWIKOFU_LINE_COUNT 2            /* header: n is 0 or above 64 */
-#define MEWIKOFU_LAYOUT 3                /* header: offsets, length word or real length differ */
-#define MEWIKOFU_MARKET_PRICE 4          /* market: a price or APC above limit */
-#define MEWIKOFU_MARKET_MARK 5           /* market: mark or switch above 1 */
-#define MEWIKOFU_SIDE_OR_ACCREDITATION 6 /* line: side or accreditation above 1 */
-#define MEWIKOFU_BID_COUNT 7             /* line: bid count 0 or above 11 */
-#define MEWIKOFU_BREAKS 8                /* line: breaks not strictly rising from above 0, or above limit */
-#define MEWIKOFU_PRICES 9                /* line: price above limit, or falling (withdrawal: rising) */
-#define MEWIKOFU_UNUSED_SLOT 10          /* line: an unused slot isn't 0 */
-#define MEWIKOFU_HEDGE 11                /* line: hedge above M, or not 0 on a withdrawal */
-#define MEWIKOFU_TOTALS 12               /* line: a pricing or operating total above M */
-#define MEWIKOFU_ACTUALS 13              /* line: an actual above the quantity limit */
-#define MEWIKOFU_EQUAL_KEYS 14           /* all lines: two with equal participant, point and side */
-#define MEWIKOFU_BOOK_SHORT 15           /* book: under 96 + 56 n bytes */
-#define MEWIKOFU_NO_LINE 16              /* view, line part: line not below n */
-#define MEWIKOFU_NO_STEP 17              /* view: step not below its count */
-#define MEWIKOFU_LINE_LENGTH 18          /* cutter: not 660 bytes */
+/* tools/refusals writes from here, from docs/REFUSALS.md. */
+#define MEWIKOFU_FILE_SHORT 1            /* header: fewer than 64 bytes */
+#define MEWIKOFU_LINE_COUNT 2            /* header: n = 0 or n > 64 */
+#define MEWIKOFU_LAYOUT 3                /* header: words 2 to 4 aren't 16, 64, 64 + 660 n, or the file isn't 64 + 660 n bytes */
+#define MEWIKOFU_MARKET_PRICE 4          /* market: a market price or APC > 10,000,000 */
+#define MEWIKOFU_MARKET_MARK 5           /* market: a cap mark or the clawback switch > 1 */
+#define MEWIKOFU_SIDE_OR_ACCREDITATION 6 /* each line: side > 1 or accreditation > 1 */
+#define MEWIKOFU_BID_COUNT 7             /* each line: a bid's count = 0 or > 11 */
+#define MEWIKOFU_BREAKS 8                /* each line: a bid's break <= the one before (first: <= 0), or > 200,000,000 */
+#define MEWIKOFU_PRICES 9                /* each line: a bid's price > 10,000,000, or < the one before (withdrawal: > the one before) */
+#define MEWIKOFU_UNUSED_SLOT 10          /* each line: a break or price past the bid's count isn't 0 */
+#define MEWIKOFU_HEDGE 11                /* each line: hedge > M (withdrawal: > 0) */
+#define MEWIKOFU_TOTALS 12               /* each line: a schedule's pricing or operating total > M */
+#define MEWIKOFU_ACTUALS 13              /* each line: an interval's actual > 200,000,000 */
+#define MEWIKOFU_EQUAL_KEYS 14           /* all lines: participant, point and side are those of an earlier line */
+#define MEWIKOFU_BOOK_SHORT 15           /* book: fewer than 96 + 56 n bytes lent */
+#define MEWIKOFU_NO_LINE 16              /* view, line part: line >= n */
+#define MEWIKOFU_NO_STEP 17              /* view: step >= the line's step count */
+#define MEWIKOFU_LINE_LENGTH 18          /* cutter: other than 660 bytes */
+
+/* What a number says. It is of this header alone and needs no archive. */
+static inline const char *mewikofu_words(uint32_t number)
+{
+    static const char *const words[] = {
+        "accepted",
+        "the file is under 64 bytes",
+        "the line count is 0 or above 64",
+        "the header's offsets or length, or the file's length, aren't those of its line count",
+        "a market price or the administered price cap is above 10,000,000 price units",
+        "a cap mark or the clawback switch is above 1",
+        "a line's side or accreditation is above 1",
+        "a bid's count is 0 or above 11",
+        "a bid's breaks aren't strictly rising from above 0, or one is above 200,000,000 MJ",
+        "a bid's price is above 10,000,000 price units, or falls (withdrawal: rises)",
+        "an unused slot of a bid isn't 0",
+        "a hedge is above the line's greatest break, or isn't 0 on a withdrawal",
+        "a pricing or operating total is above the line's greatest break",
+        "an actual is above 200,000,000 MJ",
+        "two lines have the same participant, point and side",
+        "the lent book is under 96 + 56 n bytes",
+        "the day has no such line",
+        "the line has no such step",
+        "the line isn't 660 bytes",
+    };
+    return number < sizeof words / sizeof words[0] ? words[number] : "an unknown number";
+}
+/* tools/refusals writes to here. */
 
 /* Sizes. */
 #define MEWIKOFU_MOST_LINES 64
@@ -67,13 +97,13 @@ extern "C" {
 #define MEWIKOFU_PRICE_AT(s, k) (MEWIKOFU_MOST_STEPS * (s) + (k))
 #define MEWIKOFU_MATCH_AT(r, s) ((s) * ((s) - 1) / 2 + (r))
 
-/* Settles a day, the `length` bytes at `day`, into the book lent, `room` bytes at `book`. Answers the number: 1 to 14 for a fault of the file,
-   then 15 where room is under MEWIKOFU_BOOK_BYTES(n). With 0 the book's bytes are written and those beyond are unchanged; with any other
-   number every lent byte is as it was. */
+/* Settles a day, the `length` bytes at `day`, into the book lent, `room` bytes at `book`. Answers the number; header, market, each line, all lines
+   and book (room under MEWIKOFU_BOOK_BYTES(n)) are checked, in this order. With 0 the book's bytes are written and those beyond are unchanged;
+   with any other number every lent byte is as it was. */
 uint32_t mewikofu_settle(const uint8_t *day, size_t length, uint8_t *book, size_t room);
 
-/* The step view: every figure of step `step` of line `line` (both from 0). Answers the number, 1 to 14 for a fault of the file, then 16, 17, and
-   writes every lent place: all are 0 where the number isn't. By schedule:
+/* The step view: every figure of step `step` of line `line` (both from 0). Answers the number; header, market, each line, all lines and view are
+   checked, in this order. Writes every lent place: all are 0 where the number isn't. By schedule:
    price      capped          flag       1 where the bid has no price for the step
    operating  O               pricing    E
    agino      AGINO           msiq       MSIQ           constrained  C
@@ -85,11 +115,12 @@ uint32_t mewikofu_view(const uint8_t *day, size_t length, size_t line, size_t st
                        uint32_t constrained[MEWIKOFU_SCHEDULES], uint32_t matches[MEWIKOFU_MATCHES], int64_t initial[MEWIKOFU_SCHEDULES],
                        int64_t revised[MEWIKOFU_SCHEDULES], int64_t modified[MEWIKOFU_SCHEDULES], int64_t finals[MEWIKOFU_SCHEDULES]);
 
-/* The bytes of line k (from 0) within the day's own: they are the `part_length` bytes from byte `at` of the day on. Answers the number, 1 to 3
-   for a fault of the header, then 16; where it isn't 0 both places are 0 and the part is empty. */
+/* The bytes of line k (from 0) within the day's own: they are the `part_length` bytes from byte `at` of the day on. Answers the number; header and
+   line part are checked, in this order. Where it isn't 0 both places are 0 and the part is empty. */
 uint32_t mewikofu_line_part(const uint8_t *day, size_t length, size_t k, size_t *at, size_t *part_length);
 
-/* The cutter, of libcutter_c.a. Cuts one line of a day file, the `length` bytes at `line`. Answers the number, 18, then 6 to 13, and writes every lent place:
+/* The cutter, of libcutter_c.a. Cuts one line of a day file, the `length` bytes at `line`. Answers the number; cutter and each line are checked, in this
+   order. Writes every lent place:
    count    how many steps, at most 56
    ends     their upper ends, rising
    prices   their uncapped prices, at MEWIKOFU_PRICE_AT

@@ -16,27 +16,29 @@ SCHEDULES = 5
 MOST_STEPS = 56
 MATCHES = 10
 
-# Place and words of the refusals 1 to 18.
+# Place and words of each number.
+# tools/refusals writes from here, from docs/REFUSALS.md.
 _REFUSALS = {
     1: ("header", "the file is under 64 bytes"),
     2: ("header", "the line count is 0 or above 64"),
-    3: ("header", "an offset, the length word or the real length isn't that of the line count"),
-    4: ("market", "a market price or the administered price cap is above 10,000,000"),
+    3: ("header", "the header's offsets or length, or the file's length, aren't those of its line count"),
+    4: ("market", "a market price or the administered price cap is above 10,000,000 price units"),
     5: ("market", "a cap mark or the clawback switch is above 1"),
     6: ("each line", "a line's side or accreditation is above 1"),
     7: ("each line", "a bid's count is 0 or above 11"),
     8: ("each line", "a bid's breaks aren't strictly rising from above 0, or one is above 200,000,000 MJ"),
-    9: ("each line", "a bid's price is above 10,000,000, or they fall (withdrawal: rise)"),
+    9: ("each line", "a bid's price is above 10,000,000 price units, or falls (withdrawal: rises)"),
     10: ("each line", "an unused slot of a bid isn't 0"),
     11: ("each line", "a hedge is above the line's greatest break, or isn't 0 on a withdrawal"),
     12: ("each line", "a pricing or operating total is above the line's greatest break"),
     13: ("each line", "an actual is above 200,000,000 MJ"),
-    14: ("all lines", "two lines have equal participant, point and side"),
+    14: ("all lines", "two lines have the same participant, point and side"),
     15: ("book", "the lent book is under 96 + 56 n bytes"),
-    16: ("view, line part", "the line isn't below the line count"),
-    17: ("view", "the step isn't below the line's step count"),
+    16: ("view, line part", "the day has no such line"),
+    17: ("view", "the line has no such step"),
     18: ("cutter", "the line isn't 660 bytes"),
 }
+# tools/refusals writes to here.
 
 
 class Refusal(Exception):

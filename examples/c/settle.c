@@ -9,24 +9,6 @@
 static uint8_t day[MEWIKOFU_DAY_BYTES(MEWIKOFU_MOST_LINES) + 1];
 static uint8_t book[MEWIKOFU_BOOK_BYTES(MEWIKOFU_MOST_LINES)];
 
-static const char *const refusals[] = {
-    [MEWIKOFU_FILE_SHORT] = "the file is under 64 bytes",
-    [MEWIKOFU_LINE_COUNT] = "the line count is 0 or above 64",
-    [MEWIKOFU_LAYOUT] = "an offset, the length word or the real length isn't that of the line count",
-    [MEWIKOFU_MARKET_PRICE] = "a market price or the administered price cap is above 10,000,000",
-    [MEWIKOFU_MARKET_MARK] = "a cap mark or the clawback switch is above 1",
-    [MEWIKOFU_SIDE_OR_ACCREDITATION] = "a line's side or accreditation is above 1",
-    [MEWIKOFU_BID_COUNT] = "a bid's count is 0 or above 11",
-    [MEWIKOFU_BREAKS] = "a bid's breaks aren't strictly rising from above 0, or one is above 200,000,000 MJ",
-    [MEWIKOFU_PRICES] = "a bid's price is above 10,000,000, or they fall (withdrawal: rise)",
-    [MEWIKOFU_UNUSED_SLOT] = "an unused slot of a bid isn't 0",
-    [MEWIKOFU_HEDGE] = "a hedge is above the line's greatest break, or isn't 0 on a withdrawal",
-    [MEWIKOFU_TOTALS] = "a pricing or operating total is above the line's greatest break",
-    [MEWIKOFU_ACTUALS] = "an actual is above 200,000,000 MJ",
-    [MEWIKOFU_EQUAL_KEYS] = "two lines have equal participant, point and side",
-    [MEWIKOFU_BOOK_SHORT] = "the lent book is under 96 + 56 n bytes",
-};
-
 static uint32_t word(const uint8_t *at)
 {
     return (uint32_t)at[0] | (uint32_t)at[1] << 8 | (uint32_t)at[2] << 16 | (uint32_t)at[3] << 24;
@@ -84,7 +66,7 @@ int main(int count, char **arguments)
     }
     uint32_t number = mewikofu_settle(day, length, book, sizeof book);
     if (number != MEWIKOFU_ACCEPTED) {
-        printf("refused %" PRIu32 ": %s\n", number, refusals[number]);
+        printf("refused %" PRIu32 ": %s\n", number, mewikofu_words(number));
         return 1;
     }
     print_book();

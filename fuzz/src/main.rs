@@ -5,6 +5,7 @@ mod mutate;
 mod random;
 
 use compare::{Call, Compare, Numbers, MOST_ROOM};
+use mewikofu::Refusal;
 use random::Random;
 use reference::generate::{damaged_day, small_day, valid_day};
 use reference::layout::*;
@@ -46,14 +47,31 @@ fn usage() -> bool {
     false
 }
 
-/// How often each number 0 to 18 was answered.
+/// How often each number from 0 on was answered.
+type Answers = [u64; Refusal::ALL.len() + 1];
+
 #[derive(Default)]
 struct Counts {
-    settle: [u64; 19],
-    cut: [u64; 19],
-    view: [u64; 19],
-    part: [u64; 19],
+    settle: Answers,
+    cut: Answers,
+    view: Answers,
+    part: Answers,
     shared: u64,
+}
+
+/// The places of docs/REFUSALS.md that a call checks.
+const SETTLE: &[&str] = &["header", "market", "each line", "all lines", "book"];
+const VIEW: &[&str] = &["header", "market", "each line", "all lines", "view"];
+const CUT: &[&str] = &["cutter", "each line"];
+const PART: &[&str] = &["header", "line part"];
+
+/// 0 and the numbers of these places.
+fn numbers(places: &[&str]) -> Vec<usize> {
+    let of_places = |refusal: &Refusal| refusal.place().split(", ").any(|p| places.contains(&p));
+    let refusals = Refusal::ALL.into_iter().filter(of_places);
+    [0].into_iter()
+        .chain(refusals.map(|refusal| refusal.number() as usize))
+        .collect()
 }
 
 impl Counts {
@@ -65,26 +83,23 @@ impl Counts {
         self.shared += u64::from(numbers.shared);
     }
 
-    /// The counts, and whether every number that a call can answer was answered.
+    /// The counts, and whether each call answered all numbers of its places and no other.
     fn print(&self) -> bool {
-        let all: [(&str, &[u64; 19], Vec<usize>); 4] = [
-            ("settle", &self.settle, (0..=15).collect()),
-            ("view", &self.view, (0..=14).chain([16, 17]).collect()),
-            (
-                "cut",
-                &self.cut,
-                [0].into_iter().chain(6..=13).chain([18]).collect(),
-            ),
-            ("line part", &self.part, vec![0, 1, 2, 3, 16]),
+        let all = [
+            ("settle", &self.settle, SETTLE),
+            ("view", &self.view, VIEW),
+            ("cut", &self.cut, CUT),
+            ("line part", &self.part, PART),
         ];
         let mut reached = true;
-        for (name, counts, numbers) in all {
-            let text: Vec<String> = numbers
-                .iter()
-                .map(|&k| format!("{k}: {}", counts[k]))
+        for (name, counts, places) in all {
+            let numbers = numbers(places);
+            let text: Vec<String> = (0..counts.len())
+                .filter(|k| counts[*k] > 0 || numbers.contains(k))
+                .map(|k| format!("{k}: {}", counts[k]))
                 .collect();
             println!("{name}: {}", text.join(", "));
-            reached &= numbers.iter().all(|&k| counts[k] > 0);
+            reached &= (0..counts.len()).all(|k| (counts[k] > 0) == numbers.contains(&k));
         }
         println!("views with a share of T: {}", self.shared);
         reached && self.shared > 0
@@ -131,7 +146,7 @@ fn run(seed: u64, iterations: std::ops::Range<u64>) -> bool {
         count as f64 / seconds
     );
     if !counts.print() && count >= 100_000 {
-        println!("failed: a number or a share of T was never reached");
+        println!("failed: a call didn't answer exactly the numbers of its places, or no share of T was reached");
         return false;
     }
     true

@@ -137,18 +137,20 @@ class RefusalTest(unittest.TestCase):
             mewikofu.settle(REFUSED)
         refusal = caught.exception
         self.assertEqual((refusal.number, refusal.place), (9, "each line"))
-        self.assertIn("a bid's price is above 10,000,000, or they fall", str(refusal))
+        self.assertIn("a bid's price is above 10,000,000 price units, or falls", str(refusal))
         self.assertEqual(pickle.loads(pickle.dumps(refusal)).number, 9)
         self.assertEqual(number(mewikofu.view, REFUSED, 0, 0), 9)
 
     def test_short_files(self):
         self.assertEqual([number(mewikofu.settle, day) for day in (b"", K10[:63], bytes(64), K10[:-1])], [1, 1, 2, 3])
 
-    def test_every_number_has_words(self):
-        header = (ROOT / "include/mewikofu.h").read_text()
-        numbers = [int(n) for n in re.findall(r"#define MEWIKOFU_[A-Z_]+ (\d+) +/\* [a-z, ]+:", header)]
-        self.assertEqual(numbers, list(range(1, 19)))
-        self.assertEqual([mewikofu.Refusal(n).number for n in numbers], numbers)
+    def test_table(self):
+        table = (ROOT / "docs/REFUSALS.md").read_text()
+        rows = re.findall(r"^\| (\d+) \| `\w+` \| ([^|]+) \| [^|]+ \| ([^|]+) \|$", table, re.MULTILINE)
+        refusals = [mewikofu.Refusal(int(number)) for number, _, _ in rows]
+        self.assertEqual([(str(refusal.number), refusal.place, refusal.words) for refusal in refusals], rows)
+        self.assertGreaterEqual(len(rows), 18)
+        self.assertRaises(KeyError, mewikofu.Refusal, len(rows) + 1)
 
 
 class PageTest(unittest.TestCase):

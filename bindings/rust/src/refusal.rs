@@ -1,101 +1,67 @@
-//! The refusals 1 to 18 (document 01, "Where each refusal is checked").
+//! The refusals (document 01, "Where each refusal is checked"), as docs/REFUSALS.md has them.
 
 use std::fmt;
 
-#[derive(Clone, Copy, Debug, PartialEq, Eq, Hash)]
-#[repr(u32)]
-pub enum Refusal {
-    FileShort = 1,
-    LineCount = 2,
-    Layout = 3,
-    MarketPrice = 4,
-    MarketMark = 5,
-    SideOrAccreditation = 6,
-    BidCount = 7,
-    Breaks = 8,
-    Prices = 9,
-    UnusedSlot = 10,
-    Hedge = 11,
-    Totals = 12,
-    Actuals = 13,
-    EqualKeys = 14,
-    BookShort = 15,
-    NoLine = 16,
-    NoStep = 17,
-    LineLength = 18,
+/// The type and what it has of each row `NAME = NUMBER, PLACE, WORDS`.
+macro_rules! refusals {
+    ($($name:ident = $number:literal, $place:literal, $words:literal;)*) => {
+        #[derive(Clone, Copy, Debug, PartialEq, Eq, Hash)]
+        #[repr(u32)]
+        pub enum Refusal {
+            $(#[doc = $words] $name = $number,)*
+        }
+
+        impl Refusal {
+            /// All refusals, in the order of their numbers.
+            pub const ALL: [Refusal; [$($number),*].len()] = [$(Refusal::$name),*];
+
+            /// The first column of document 01's table.
+            pub fn place(self) -> &'static str {
+                match self {
+                    $(Refusal::$name => $place,)*
+                }
+            }
+
+            /// What is wrong.
+            pub fn words(self) -> &'static str {
+                match self {
+                    $(Refusal::$name => $words,)*
+                }
+            }
+        }
+    };
 }
 
-use Refusal::*;
+// tools/refusals writes from here, from docs/REFUSALS.md.
+refusals! {
+    FileShort = 1, "header", "the file is under 64 bytes";
+    LineCount = 2, "header", "the line count is 0 or above 64";
+    Layout = 3, "header", "the header's offsets or length, or the file's length, aren't those of its line count";
+    MarketPrice = 4, "market", "a market price or the administered price cap is above 10,000,000 price units";
+    MarketMark = 5, "market", "a cap mark or the clawback switch is above 1";
+    SideOrAccreditation = 6, "each line", "a line's side or accreditation is above 1";
+    BidCount = 7, "each line", "a bid's count is 0 or above 11";
+    Breaks = 8, "each line", "a bid's breaks aren't strictly rising from above 0, or one is above 200,000,000 MJ";
+    Prices = 9, "each line", "a bid's price is above 10,000,000 price units, or falls (withdrawal: rises)";
+    UnusedSlot = 10, "each line", "an unused slot of a bid isn't 0";
+    Hedge = 11, "each line", "a hedge is above the line's greatest break, or isn't 0 on a withdrawal";
+    Totals = 12, "each line", "a pricing or operating total is above the line's greatest break";
+    Actuals = 13, "each line", "an actual is above 200,000,000 MJ";
+    EqualKeys = 14, "all lines", "two lines have the same participant, point and side";
+    BookShort = 15, "book", "the lent book is under 96 + 56 n bytes";
+    NoLine = 16, "view, line part", "the day has no such line";
+    NoStep = 17, "view", "the line has no such step";
+    LineLength = 18, "cutter", "the line isn't 660 bytes";
+}
+// tools/refusals writes to here.
 
 impl Refusal {
-    /// All refusals, in the order of their numbers.
-    pub const ALL: [Refusal; 18] = [
-        FileShort,
-        LineCount,
-        Layout,
-        MarketPrice,
-        MarketMark,
-        SideOrAccreditation,
-        BidCount,
-        Breaks,
-        Prices,
-        UnusedSlot,
-        Hedge,
-        Totals,
-        Actuals,
-        EqualKeys,
-        BookShort,
-        NoLine,
-        NoStep,
-        LineLength,
-    ];
-
     pub fn number(self) -> u32 {
         self as u32
     }
 
     pub fn of_number(number: u32) -> Option<Refusal> {
         Refusal::ALL.get((number as usize).checked_sub(1)?).copied()
-    }
-
-    /// The first column of document 01's table.
-    pub fn place(self) -> &'static str {
-        match self {
-            FileShort | LineCount | Layout => "header",
-            MarketPrice | MarketMark => "market",
-            EqualKeys => "all lines",
-            BookShort => "book",
-            NoLine => "view, line part",
-            NoStep => "view",
-            LineLength => "cutter",
-            _ => "each line",
-        }
-    }
-
-    /// What is wrong.
-    pub fn condition(self) -> &'static str {
-        match self {
-            FileShort => "the file is under 64 bytes",
-            LineCount => "the line count is 0 or above 64",
-            Layout => "an offset, the length word or the real length isn't that of the line count",
-            MarketPrice => "a market price or the administered price cap is above 10,000,000",
-            MarketMark => "a cap mark or the clawback switch is above 1",
-            SideOrAccreditation => "a line's side or accreditation is above 1",
-            BidCount => "a bid's count is 0 or above 11",
-            Breaks => {
-                "a bid's breaks aren't strictly rising from above 0, or one is above 200,000,000 MJ"
-            }
-            Prices => "a bid's price is above 10,000,000, or they fall (withdrawal: rise)",
-            UnusedSlot => "an unused slot of a bid isn't 0",
-            Hedge => "a hedge is above the line's greatest break, or isn't 0 on a withdrawal",
-            Totals => "a pricing or operating total is above the line's greatest break",
-            Actuals => "an actual is above 200,000,000 MJ",
-            EqualKeys => "two lines have equal participant, point and side",
-            BookShort => "the lent book is under 96 + 56 n bytes",
-            NoLine => "the line isn't below the line count",
-            NoStep => "the step isn't below the line's step count",
-            LineLength => "the line isn't 660 bytes",
-        }
     }
 }
 
@@ -105,7 +71,7 @@ impl fmt::Display for Refusal {
             out,
             "refused {}: {} (document 01, \"Where each refusal is checked\", {})",
             self.number(),
-            self.condition(),
+            self.words(),
             self.place()
         )
     }
@@ -113,7 +79,7 @@ impl fmt::Display for Refusal {
 
 impl std::error::Error for Refusal {}
 
-/// A number as a result. No contract allows a number above 18.
+/// A number as a result. No contract allows one that isn't in the table.
 pub(crate) fn accepted(number: u32) -> Result<(), Refusal> {
     match (number, Refusal::of_number(number)) {
         (0, _) => Ok(()),

@@ -1,4 +1,4 @@
-//! The binding beside document 01 and include/mewikofu.h.
+//! The binding beside document 01, docs/REFUSALS.md and include/mewikofu.h.
 
 use mewikofu::{cut, line_part, match_place, settle, view, Refusal, Side};
 
@@ -6,6 +6,7 @@ const K10: &[u8] = include_bytes!("../../../examples/k10.day");
 const REFUSED: &[u8] = include_bytes!("../../../examples/refused.day");
 const TABLE_1: &[u8] = include_bytes!("../../../crates/cut/stdin");
 const HEADER: &str = include_str!("../../../include/mewikofu.h");
+const TABLE: &str = include_str!("../../../docs/REFUSALS.md");
 
 #[test]
 fn k10() {
@@ -52,23 +53,32 @@ fn a_refused_day() {
     );
 }
 
-/// MEWIKOFU_FILE_SHORT is FileShort, and so on for all eighteen, in the header's order.
+/// Number, name, place and words of each row of the table of refusals.
+fn rows() -> Vec<[&'static str; 4]> {
+    let row = |line: &'static str| {
+        let cells: Vec<&str> = line.split('|').map(str::trim).collect();
+        match cells[..] {
+            ["", number, name, place, _, words, ""] if number.parse::<u32>().is_ok() => {
+                Some([number, name.trim_matches('`'), place, words])
+            }
+            _ => None,
+        }
+    };
+    TABLE.lines().filter_map(row).collect()
+}
+
+/// The row FILE_SHORT is FileShort, and MEWIKOFU_FILE_SHORT in the header; so for every row.
 #[test]
-fn refusals_are_the_headers() {
-    let rest = HEADER.split("#define MEWIKOFU_ACCEPTED 0").nth(1).unwrap();
-    let defined = rest.lines().skip(1).take(18).map(|line| {
-        let mut words = line.split_whitespace().skip(1);
-        let name = words
-            .next()
-            .unwrap()
-            .trim_start_matches("MEWIKOFU_")
-            .replace('_', "");
-        (name, words.next().unwrap().parse().unwrap())
-    });
-    let own = Refusal::ALL.map(|refusal| (format!("{refusal:?}").to_uppercase(), refusal.number()));
-    assert_eq!(defined.collect::<Vec<(String, u32)>>(), own);
-    for refusal in Refusal::ALL {
+fn refusals_are_the_tables() {
+    assert_eq!(rows().len(), Refusal::ALL.len());
+    for ([number, name, place, words], refusal) in rows().into_iter().zip(Refusal::ALL) {
+        assert_eq!(refusal.number().to_string(), number);
+        assert_eq!(format!("{refusal:?}").to_uppercase(), name.replace('_', ""));
+        assert_eq!((refusal.place(), refusal.words()), (place, words));
         assert_eq!(Refusal::of_number(refusal.number()), Some(refusal));
+        let defined = format!("\n#define MEWIKOFU_{name} {number} ");
+        assert!(HEADER.contains(&defined), "{defined}");
     }
-    assert_eq!([0, 19, u32::MAX].map(Refusal::of_number), [None; 3]);
+    let next = Refusal::ALL.len() as u32 + 1;
+    assert_eq!([0, next, u32::MAX].map(Refusal::of_number), [None; 3]);
 }

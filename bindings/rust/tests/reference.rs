@@ -31,15 +31,15 @@ fn some(k: u64, salt: u64, n: usize) -> usize {
 }
 
 fn refused<T>(number: u32) -> Result<T, Refusal> {
-    Err(Refusal::of_number(number).expect("a number from 1 to 18"))
+    Err(Refusal::of_number(number).expect("a number of the table"))
 }
 
 /// How often each number was answered, so that the test shows what it reached.
-type Reached = [u64; 19];
+type Reached = [u64; Refusal::ALL.len() + 1];
 
 #[test]
 fn generated_days() {
-    let mut reached = [0; 19];
+    let mut reached: Reached = [0; Refusal::ALL.len() + 1];
     let count = days();
     for k in 0..count {
         let day = day(k);
@@ -52,9 +52,10 @@ fn generated_days() {
         check_cuts(k, &day, lines, &mut reached);
         assert_eq!(day, before, "day {k} was changed");
     }
-    println!("{count} days; answers of each number 0 to 18: {reached:?}");
+    println!("{count} days; answers of each number from 0 on: {reached:?}");
+    // Document 01's numbers. For each of the table fuzzing asks whether the calls of its place answer it.
     if count >= 1_000 {
-        assert!(reached.iter().all(|&times| times > 0), "{reached:?}");
+        assert!(reached[..=18].iter().all(|&times| times > 0), "{reached:?}");
     }
 }
 

@@ -7,9 +7,8 @@ use lib.ListN.{length, take, drop, length-append}
 use lib.Seq.{sets, sets-eq, drop-at, length-take-le, length-sets}
 use lib.IntN.{ℤ}
 use Rattle.rules.specs.Fold.{joined, five, atZ}
-use Rattle.rules.specs.Layout.{lineCount, lineAt, participant, point, side}
-use Rattle.rules.specs.Steps.{stepCount}
 use Rattle.rules.specs.Refusals.{bookLength}
+use Rattle.rules.specs.Payments.{Day}
 use Rattle.rules.specs.Totals.{linePayment, total, totals, adjusted, adjustedTotal}
 use Rattle.rules.specs.Book.{wordBytes, signedBytes, bookHeader, totalPair, paymentBytes, lineEntry, bookOf}
 use Rattle.laws.specs.Folds.{joined-length}
@@ -34,28 +33,28 @@ unfoldable pub frontOf : ℕ → (ℕ → ℤ) → (ℕ → ℤ) → List ℕ
 frontOf n t a = fourWords n 16 96 (bookLength n) ++ joined 5 (pairBytes t a)
 
 -- of a day: line k's part, and the front
-pub entry-is : (d : List ℕ) (k : ℕ) {p q sd n : ℕ} {v : List ℤ}
-    → p ≡ participant (lineAt d k) → q ≡ point (lineAt d k) → sd ≡ side (lineAt d k) → n ≡ stepCount (lineAt d k) → v ≡ five (λ s. linePayment d s k)
-    → entryOf p q sd n (atZ v) ≡ lineEntry d k
+pub entry-is : (y : Day) (k : ℕ) {p q sd n : ℕ} {v : List ℤ}
+    → p ≡ y .participant k → q ≡ y .point k → sd ≡ y .side k → n ≡ y .count k → v ≡ five (λ s. linePayment y s k)
+    → entryOf p q sd n (atZ v) ≡ lineEntry y k
 unfolding entryOf lineEntry moneyBytes paymentBytes joined
-entry-is d k a b c e f = rw (a, b, c, e, f)
+entry-is y k a b c e f = rw (a, b, c, e, f)
 
-pub front-is : (d : List ℕ) {n : ℕ} {t a : List ℤ} → n ≡ lineCount d → t ≡ five (total d) → a ≡ five (adjusted t)
-    → frontOf n (atZ t) (atZ a) ≡ bookHeader d ++ joined 5 (totalPair d)
+pub front-is : (y : Day) {n : ℕ} {t a : List ℤ} → n ≡ y .lines → t ≡ five (total y) → a ≡ five (adjusted t)
+    → frontOf n (atZ t) (atZ a) ≡ bookHeader y ++ joined 5 (totalPair y)
 unfolding frontOf bookHeader pairBytes totalPair joined adjustedTotal totals
-front-is d e f g = rw (g, f, e)
+front-is y e f g = rw (g, f, e)
 
 -- the lines put from byte 96 on, then what stands before them: the whole book, and the bytes beyond as they were
-pub whole-book : (d b m e : List ℕ) → bookLength (lineCount d) ≤ length b
-    → m ≡ sets b 96 (joined (lineCount d) (lineEntry d)) → e ≡ sets m 0 (bookHeader d ++ joined 5 (totalPair d))
-    → e ≡ bookOf d ++ drop (bookLength (lineCount d)) b
+pub whole-book : (y : Day) (b m e : List ℕ) → bookLength (y .lines) ≤ length b
+    → m ≡ sets b 96 (joined (y .lines) (lineEntry y)) → e ≡ sets m 0 (bookHeader y ++ joined 5 (totalPair y))
+    → e ≡ bookOf y ++ drop (bookLength (y .lines)) b
 unfolding bookOf
-whole-book d b m e h me ee =
-    let front = bookHeader d ++ joined 5 (totalPair d) in
-    let lines = joined (lineCount d) (lineEntry d) in
-    let n = lineCount d in
+whole-book y b m e h me ee =
+    let front = bookHeader y ++ joined 5 (totalPair y) in
+    let lines = joined (y .lines) (lineEntry y) in
+    let n = y .lines in
     let f : length front ≡ 96 = simp (length-append, header-length, pairs-length) in
-    let g : length lines ≡ n * 56 = joined-length n 56 (lineEntry d) (λ k l. entry-length d k) in
+    let g : length lines ≡ n * 56 = joined-length n 56 (lineEntry y) (λ k l. entry-length y k) in
     let me′ : m ≡ take 96 b ++ lines ++ drop (96 + length lines) b = me ∙ sets-eq lines b 96 (omega arith) in
     let len : length m ≡ length b = ap length me ∙ length-sets b 96 lines in
     let one : sets m 0 front ≡ take 0 m ++ front ++ drop (0 + length front) m = sets-eq front m 0 (omega arith) in

@@ -4,11 +4,13 @@ use native.Mathlib.Omega.{arith}
 use mathlib.Core.Path.{_≡_, refl}
 use mathlib.Core.List.{List, _++_}
 use lib.ListN.{length, drop, length-append}
+use lib.IntN.{ℤ}
 use lib.Signed.{mag}
 use Rattle.rules.specs.Fold.{joined}
-use Rattle.rules.specs.Layout.{word, lineCount, lineAt, participant, point, side}
-use Rattle.rules.specs.Steps.{stepCount}
+use Rattle.rules.specs.Layout.{word, lineCount}
 use Rattle.rules.specs.Refusals.{bookLength, settleFault}
+use Rattle.rules.specs.Payments.{Day}
+use Rattle.rules.specs.Days.{settledDay}
 use Rattle.rules.specs.Totals.{linePayment, total, adjustedTotal}
 use Rattle.rules.specs.Book.{bits64, wordBytes, signedBytes, bookHeader, totalPair, paymentBytes, lineEntry, bookOf, bookAfter}
 use Rattle.laws.specs.Folds.{joined-length}
@@ -27,33 +29,69 @@ entryAt k = 96 + 56 * k
 abbrev pub paymentAt : ℕ → ℕ → ℕ
 paymentAt k s = entryAt k + 16 + 8 * s
 
+-- the fields of a book: how many lines, t and a of a schedule; and of entry k participant, point, side, step count and payment in s
+abbrev pub bookLines : List ℕ → ℕ
+bookLines b = word b 0
+
+abbrev pub bookTotal : List ℕ → ℕ → ℤ
+bookTotal b s = signedAt b (totalAt s)
+
+abbrev pub bookAdjusted : List ℕ → ℕ → ℤ
+bookAdjusted b s = signedAt b (adjustedAt s)
+
+abbrev pub bookParticipant : List ℕ → ℕ → ℕ
+bookParticipant b k = word b (entryAt k)
+
+abbrev pub bookPoint : List ℕ → ℕ → ℕ
+bookPoint b k = word b (entryAt k + 4)
+
+abbrev pub bookSide : List ℕ → ℕ → ℕ
+bookSide b k = word b (entryAt k + 8)
+
+abbrev pub bookCount : List ℕ → ℕ → ℕ
+bookCount b k = word b (entryAt k + 12)
+
+abbrev pub bookPayment : List ℕ → ℕ → ℕ → ℤ
+bookPayment b k s = signedAt b (paymentAt k s)
+
+-- what a day's book holds fits its words and signed numbers
+pub record InRange (y : Day) : Type 0 where
+  pub lines : y .lines < 2 ^ 32
+  pub participants : (k : ℕ) → k < y .lines → y .participant k < 2 ^ 32
+  pub points : (k : ℕ) → k < y .lines → y .point k < 2 ^ 32
+  pub sides : (k : ℕ) → k < y .lines → y .side k < 2 ^ 32
+  pub counts : (k : ℕ) → k < y .lines → y .count k < 2 ^ 32
+  pub payments : (k s : ℕ) → k < y .lines → s < 5 → mag (linePayment y s k) < 2 ^ 63
+  pub totals : (s : ℕ) → s < 5 → mag (total y s) < 2 ^ 63
+  pub adjusted : (s : ℕ) → s < 5 → mag (adjustedTotal y s) < 2 ^ 63
+
 -- lengths of the parts
-pub header-length : (d : List ℕ) → length (bookHeader d) ≡ 16
+pub header-length : (y : Day) → length (bookHeader y) ≡ 16
 unfolding bookHeader
-header-length d = simp (length-append, le-length)
+header-length y = simp (length-append, le-length)
 
-pub pair-length : (d : List ℕ) (s : ℕ) → length (totalPair d s) ≡ 16
+pub pair-length : (y : Day) (s : ℕ) → length (totalPair y s) ≡ 16
 unfolding totalPair
-pair-length d s = simp (length-append, le-length)
+pair-length y s = simp (length-append, le-length)
 
-pub pairs-length : (d : List ℕ) → length (joined 5 (totalPair d)) ≡ 80
-pairs-length d = joined-length 5 16 (totalPair d) (λ s l. pair-length d s)
+pub pairs-length : (y : Day) → length (joined 5 (totalPair y)) ≡ 80
+pairs-length y = joined-length 5 16 (totalPair y) (λ s l. pair-length y s)
 
-pub payment-length : (d : List ℕ) (k s : ℕ) → length (paymentBytes d k s) ≡ 8
+pub payment-length : (y : Day) (k s : ℕ) → length (paymentBytes y k s) ≡ 8
 unfolding paymentBytes
-payment-length d k s = le-length 8 (bits64 (linePayment d s k))
+payment-length y k s = le-length 8 (bits64 (linePayment y s k))
 
-pub payments-length : (d : List ℕ) (k : ℕ) → length (joined 5 (paymentBytes d k)) ≡ 40
-payments-length d k = joined-length 5 8 (paymentBytes d k) (λ s l. payment-length d k s)
+pub payments-length : (y : Day) (k : ℕ) → length (joined 5 (paymentBytes y k)) ≡ 40
+payments-length y k = joined-length 5 8 (paymentBytes y k) (λ s l. payment-length y k s)
 
-pub entry-length : (d : List ℕ) (k : ℕ) → length (lineEntry d k) ≡ 56
+pub entry-length : (y : Day) (k : ℕ) → length (lineEntry y k) ≡ 56
 unfolding lineEntry
-entry-length d k = simp (length-append, le-length, payments-length)
+entry-length y k = simp (length-append, le-length, payments-length)
 
-pub book-length : (d : List ℕ) → length (bookOf d) ≡ bookLength (lineCount d)
+pub book-length : (y : Day) → length (bookOf y) ≡ bookLength (y .lines)
 unfolding bookOf
-book-length d =
-    let e = joined-length (lineCount d) 56 (lineEntry d) (λ k l. entry-length d k) in
+book-length y =
+    let e = joined-length (y .lines) 56 (lineEntry y) (λ k l. entry-length y k) in
     simp (length-append, header-length, pairs-length) (omega arith)
 
 -- four words one after another, as in the header and at the front of an entry
@@ -85,69 +123,83 @@ four-stand {b} {i} v₀ v₁ v₂ v₃ s =
     }
 
 -- the parts of a book that has other bytes behind it
-module _ (d rest : List ℕ) where
-  head-stands : Stands (bookOf d ++ rest) 0 (bookHeader d ++ joined 5 (totalPair d))
+module _ (y : Day) (rest : List ℕ) where
+  head-stands : Stands (bookOf y ++ rest) 0 (bookHeader y ++ joined 5 (totalPair y))
   unfolding bookOf
   head-stands =
-      stands-first (bookHeader d ++ joined 5 (totalPair d)) (joined (lineCount d) (lineEntry d)) (stands-own (bookOf d) rest)
+      stands-first (bookHeader y ++ joined 5 (totalPair y)) (joined (y .lines) (lineEntry y)) (stands-own (bookOf y) rest)
 
-  header-stands : Stands (bookOf d ++ rest) 0 (bookHeader d)
-  header-stands = stands-first (bookHeader d) (joined 5 (totalPair d)) head-stands
+  header-stands : Stands (bookOf y ++ rest) 0 (bookHeader y)
+  header-stands = stands-first (bookHeader y) (joined 5 (totalPair y)) head-stands
 
-  pair-stands : (s : ℕ) → s < 5 → Stands (bookOf d ++ rest) (totalAt s) (totalPair d s)
+  pair-stands : (s : ℕ) → s < 5 → Stands (bookOf y ++ rest) (totalAt s) (totalPair y s)
   pair-stands s l =
-      let pairs = stands-after (bookHeader d) (joined 5 (totalPair d)) 16 16 head-stands (header-length d) refl in
+      let pairs = stands-after (bookHeader y) (joined 5 (totalPair y)) 16 16 head-stands (header-length y) refl in
       let place : 16 + s * 16 ≡ totalAt s = omega arith in
-      rw place at (stands-joined 5 16 (totalPair d) pairs (λ m g. pair-length d m) s l)
+      rw place at (stands-joined 5 16 (totalPair y) pairs (λ m g. pair-length y m) s l)
 
-  entry-stands : (k : ℕ) → k < lineCount d → Stands (bookOf d ++ rest) (entryAt k) (lineEntry d k)
+  entry-stands : (k : ℕ) → k < y .lines → Stands (bookOf y ++ rest) (entryAt k) (lineEntry y k)
   unfolding bookOf
   entry-stands k l =
-      let before = bookHeader d ++ joined 5 (totalPair d) in
+      let before = bookHeader y ++ joined 5 (totalPair y) in
       let size : length before ≡ 96 = simp (length-append, header-length, pairs-length) in
-      let entries = stands-after before (joined (lineCount d) (lineEntry d)) 96 96 (stands-own (bookOf d) rest) size refl in
+      let entries = stands-after before (joined (y .lines) (lineEntry y)) 96 96 (stands-own (bookOf y) rest) size refl in
       let place : 96 + k * 56 ≡ entryAt k = omega arith in
-      rw place at (stands-joined (lineCount d) 56 (lineEntry d) entries (λ m g. entry-length d m) k l)
+      rw place at (stands-joined (y .lines) 56 (lineEntry y) entries (λ m g. entry-length y m) k l)
 
   -- "words n, 16, 96, 96 + 56n"
-  pub book-words : FourWords (bookOf d ++ rest) 0 (lineCount d) 16 96 (bookLength (lineCount d))
+  pub book-words : FourWords (bookOf y ++ rest) 0 (y .lines) 16 96 (bookLength (y .lines))
   unfolding bookHeader
-  book-words = four-stand (lineCount d) 16 96 (bookLength (lineCount d)) header-stands
+  book-words = four-stand (y .lines) 16 96 (bookLength (y .lines)) header-stands
+
+  pub book-lines : y .lines < 2 ^ 32 → bookLines (bookOf y ++ rest) ≡ y .lines
+  book-lines h = book-words .word0 h
 
   -- "five pairs t, a as signed 64-bit"
-  pub book-total : (s : ℕ) → s < 5 → mag (total d s) < 2 ^ 63 → signedAt (bookOf d ++ rest) (totalAt s) ≡ total d s
+  pub book-total : (s : ℕ) → s < 5 → mag (total y s) < 2 ^ 63 → bookTotal (bookOf y ++ rest) s ≡ total y s
   unfolding totalPair
   book-total s l h =
-      signed-stands (total d s) (stands-first (signedBytes (total d s)) (signedBytes (adjustedTotal d s)) (pair-stands s l)) h
+      signed-stands (total y s) (stands-first (signedBytes (total y s)) (signedBytes (adjustedTotal y s)) (pair-stands s l)) h
 
-  pub book-adjusted : (s : ℕ) → s < 5 → mag (adjustedTotal d s) < 2 ^ 63 → signedAt (bookOf d ++ rest) (adjustedAt s) ≡ adjustedTotal d s
+  pub book-adjusted : (s : ℕ) → s < 5 → mag (adjustedTotal y s) < 2 ^ 63 → bookAdjusted (bookOf y ++ rest) s ≡ adjustedTotal y s
   unfolding totalPair
   book-adjusted s l h =
-      signed-stands (adjustedTotal d s)
-      (stands-after (signedBytes (total d s)) (signedBytes (adjustedTotal d s)) 8 (adjustedAt s) (pair-stands s l) (le-length 8 (bits64 (total d s))) (omega arith))
+      signed-stands (adjustedTotal y s)
+      (stands-after (signedBytes (total y s)) (signedBytes (adjustedTotal y s)) 8 (adjustedAt s) (pair-stands s l) (le-length 8 (bits64 (total y s))) (omega arith))
       h
 
   -- "per line participant, point, side, step count and five signed 64-bit payments"
-  pub entry-words : (k : ℕ) → k < lineCount d → FourWords (bookOf d ++ rest) (entryAt k) (participant (lineAt d k)) (point (lineAt d k)) (side (lineAt d k)) (stepCount (lineAt d k))
+  pub entry-words : (k : ℕ) → k < y .lines → FourWords (bookOf y ++ rest) (entryAt k) (y .participant k) (y .point k) (y .side k) (y .count k)
   unfolding lineEntry
   entry-words k l =
-      let w = lineAt d k in
-      four-stand (participant w) (point w) (side w) (stepCount w)
-      (stands-first (fourWords (participant w) (point w) (side w) (stepCount w)) (joined 5 (paymentBytes d k)) (entry-stands k l))
+      four-stand (y .participant k) (y .point k) (y .side k) (y .count k)
+      (stands-first (fourWords (y .participant k) (y .point k) (y .side k) (y .count k)) (joined 5 (paymentBytes y k)) (entry-stands k l))
 
-  pub book-payment : (k s : ℕ) → k < lineCount d → s < 5 → mag (linePayment d s k) < 2 ^ 63 → signedAt (bookOf d ++ rest) (paymentAt k s) ≡ linePayment d s k
+  module _ (k : ℕ) (l : k < y .lines) where
+    pub book-participant : y .participant k < 2 ^ 32 → bookParticipant (bookOf y ++ rest) k ≡ y .participant k
+    book-participant h = entry-words k l .word0 h
+
+    pub book-point : y .point k < 2 ^ 32 → bookPoint (bookOf y ++ rest) k ≡ y .point k
+    book-point h = entry-words k l .word1 h
+
+    pub book-side : y .side k < 2 ^ 32 → bookSide (bookOf y ++ rest) k ≡ y .side k
+    book-side h = entry-words k l .word2 h
+
+    pub book-count : y .count k < 2 ^ 32 → bookCount (bookOf y ++ rest) k ≡ y .count k
+    book-count h = entry-words k l .word3 h
+
+  pub book-payment : (k s : ℕ) → k < y .lines → s < 5 → mag (linePayment y s k) < 2 ^ 63 → bookPayment (bookOf y ++ rest) k s ≡ linePayment y s k
   unfolding lineEntry paymentBytes
   book-payment k s l g h =
-      let w = lineAt d k in
-      let words = fourWords (participant w) (point w) (side w) (stepCount w) in
-      let size = words-length (participant w) (point w) (side w) (stepCount w) in
-      let payments = stands-after words (joined 5 (paymentBytes d k)) 16 (entryAt k + 16) (entry-stands k l) size refl in
+      let words = fourWords (y .participant k) (y .point k) (y .side k) (y .count k) in
+      let size = words-length (y .participant k) (y .point k) (y .side k) (y .count k) in
+      let payments = stands-after words (joined 5 (paymentBytes y k)) 16 (entryAt k + 16) (entry-stands k l) size refl in
       let place : entryAt k + 16 + s * 8 ≡ paymentAt k s = omega arith in
-      signed-stands (linePayment d s k)
-      (rw place at (stands-joined 5 8 (paymentBytes d k) payments (λ m i. payment-length d k m) s g))
+      signed-stands (linePayment y s k)
+      (rw place at (stands-joined 5 8 (paymentBytes y k) payments (λ m i. payment-length y k m) s g))
       h
 
 -- the lent book as settling leaves it, where neither the day nor the book is refused
-pub after-settling : (d b : List ℕ) → settleFault d (length b) ≡ 0 → bookAfter d b ≡ bookOf d ++ drop (bookLength (lineCount d)) b
+pub after-settling : (d b : List ℕ) → settleFault d (length b) ≡ 0 → bookAfter d b ≡ bookOf (settledDay d) ++ drop (bookLength (lineCount d)) b
 unfolding bookAfter
 after-settling d b e = rw e

@@ -20,6 +20,10 @@ use Rattle.laws.specs.Folds.{joined-suc, joined-length}
 abbrev pub signedAt : List ℕ → ℕ → ℤ
 signedAt b i = signedOf (longWord b i)
 
+-- signed numbers `step` bytes apart, the first at byte i
+abbrev pub moneysAt : List ℕ → ℕ → ℕ → ℕ → ℤ
+moneysAt b i step s = signedAt b (i + s * step)
+
 -- the bytes q stand in b from byte i on
 pub record Stands (b : List ℕ) (i : ℕ) (q : List ℕ) : Type 0 where
   pub each : (j : ℕ) → j < length q → getD b (i + j) 0 ≡ getD q j 0

@@ -12,7 +12,8 @@ use Rattle.rules.specs.Layout.{word, lineCount, lineAt}
 use Rattle.rules.specs.Steps.{greatestBreak, stepCount, width}
 use Rattle.rules.specs.Quantities.{pricingTotal, operatingTotal}
 use Rattle.rules.specs.Matching.{rise, fall, matched}
-use Rattle.rules.specs.Payments.{operatingOn, pricingOn, aginoOn, msiqOn, onStep, stepOf}
+use Rattle.rules.specs.Payments.{operatingOn, pricingOn, aginoOn, msiqOn, onStep, Day}
+use Rattle.rules.specs.Days.{stepOf, settledDay}
 use Rattle.rules.specs.Refusals.{dayFault, bookLength}
 use Rattle.rules.specs.Cutting.{cutOf, cutAnswer}
 use Rattle.rules.specs.Viewing.{viewOf, viewAnswer}
@@ -23,7 +24,7 @@ use Rattle.rules.specs.declared.Cut.{Cut}
 use Rattle.laws.specs.Accepted.{accepted-day, accepted-line-at}
 use Rattle.laws.specs.Folds.{sum-same, at-five}
 use Rattle.laws.specs.Ints.{ltZ-yes, le-ltZ}
-use Rattle.day_totals.specs.Sizes.{Bounded, mag-size, adjusted-size}
+use Rattle.day_totals.specs.Sizes.{mag-size, adjusted-size}
 use Rattle.book.specs.Reading.{signedAt}
 use Rattle.book.specs.Framing.{paymentAt, book-words, book-adjusted, book-payment, after-settling}
 use Rattle.certificate.specs.Certificate.{Certified, matchIn, matchesMade, matchesWith, adjustedIn, paymentsIn}
@@ -32,9 +33,9 @@ use Rattle.step_quantities.specs.Adding.{stepPricing, stepOperating, pricing-ad
 use Rattle.step_matching.specs.Balance.{matchedWith, matchesIn, falls-matched, rises-bound, rises-balance}
 use Rattle.cutter.specs.Certificate.{endAt, widthAt}
 use Rattle.step_inputs.specs.Ends.{line-ends, widths-sum}
-use Rattle.step_inputs.specs.Paid.{payment-size}
+use Rattle.step_inputs.specs.Paid.{DaySized, payment-size, day-bounded, settled-sized}
 use Rattle.day_totals.specs.Sums.{sumZ-same}
-use Rattle.day_totals.specs.Money.{linePayments, totals-bounded, adjusted-payments, adjusted-order}
+use Rattle.day_totals.specs.Money.{linePayments, adjusted-payments, adjusted-order}
 use Rattle.certificate.specs.Answers.{view-whole, view-past, cut-whole, settle-taken, end-at, width-at, match-at}
 
 module _ (d : List ℕ) (h : dayFault d ≡ 0) where
@@ -132,45 +133,38 @@ module _ (d : List ℕ) (h : dayFault d ≡ 0) where
         let e = sum-same (suc s) (matchesMade (viewOf d k j)) (λ n. sumTo n (matched c n)) (λ n m. made-is k j n (omega arith)) in
         rw (view-is k j l g, e) (rises-balance c s)
 
-  -- money, read back out of the book
-  sizes : Bounded (totals d)
-  sizes =
-      let a = accepted-day d h in
-      totals-bounded d (a .header .count-most) (λ k s l g. payment-size d a k l s g)
+-- money, read back out of the book of a day within the limits, with other bytes behind it
+module _ (y : Day) (z : DaySized y) (rest : List ℕ) where
+  abbrev book : List ℕ
+  book = bookOf y ++ rest
 
-  module _ (rest : List ℕ) where
-    abbrev book : List ℕ
-    book = bookOf d ++ rest
+  adjusted-is : (s : ℕ) → s < 5 → adjustedIn book s ≡ adjustedTotal y s
+  unfolding adjustedIn adjustedTotal
+  adjusted-is s l =
+      let m = adjusted-size (totals y) (day-bounded y z) s l in
+      book-adjusted y rest s l (mag-size (adjustedTotal y s) (omega arith))
 
-    adjusted-is : (s : ℕ) → s < 5 → adjustedIn book s ≡ adjustedTotal d s
-    unfolding adjustedIn adjustedTotal
-    adjusted-is s l =
-        let m = adjusted-size (totals d) sizes s l in
-        book-adjusted d rest s l (mag-size (adjustedTotal d s) (omega arith))
+  payments-is : (k : ℕ) → k < y .lines → paymentsIn book k ≡ linePayments y k
+  unfolding paymentsIn linePayments
+  payments-is k l =
+      sumZ-same 5 (λ s. signedAt book (paymentAt k s)) (λ s. linePayment y s k)
+      (λ s g. book-payment y rest k s l g (mag-size (linePayment y s k) (omega (arith, payment-size y z k l s g))))
 
-    payments-is : (k : ℕ) → k < lineCount d → paymentsIn book k ≡ linePayments d k
-    unfolding paymentsIn linePayments
-    payments-is k l =
-        sumZ-same 5 (λ s. signedAt book (paymentAt k s)) (λ s. linePayment d s k)
-        (λ s g. book-payment d rest k s l g (mag-size (linePayment d s k) (omega (arith, payment-size d (accepted-day d h) k l s g))))
+  lines-is : word book 0 ≡ y .lines
+  lines-is = book-words y rest .word0 (omega (arith, z .lines))
 
-    lines-is : word book 0 ≡ lineCount d
-    lines-is =
-        let c = accepted-day d h .header .count-most in
-        book-words d rest .word0 (omega arith)
+  sum-is : sumZ 5 (adjustedIn book) ≡ sumZ (word book 0) (paymentsIn book)
+  sum-is =
+      rw lines-is
+      (sumZ-same 5 (adjustedIn book) (adjustedTotal y) adjusted-is
+      ∙ adjusted-payments y
+      ∙ sym (sumZ-same (y .lines) (paymentsIn book) (linePayments y) payments-is))
 
-    sum-is : sumZ 5 (adjustedIn book) ≡ sumZ (word book 0) (paymentsIn book)
-    sum-is =
-        rw lines-is
-        (sumZ-same 5 (adjustedIn book) (adjustedTotal d) adjusted-is
-        ∙ adjusted-payments d
-        ∙ sym (sumZ-same (lineCount d) (paymentsIn book) (linePayments d) payments-is))
-
-    order-is : (r s : ℕ) → r < s → s < 5 → ltZ (pos 0) (adjustedIn book r) ≡ true → ltZ (adjustedIn book s) (pos 0) ≡ false
-    order-is r s l g e =
-        let p = ltZ-yes (pos 0) (adjustedTotal d r) (rw (adjusted-is r (omega arith)) at e) in
-        let m = adjusted-order d r s l g (omega arith) in
-        rw (adjusted-is s g) (le-ltZ (adjustedTotal d s) (pos 0) (omega arith))
+  order-is : (r s : ℕ) → r < s → s < 5 → ltZ (pos 0) (adjustedIn book r) ≡ true → ltZ (adjustedIn book s) (pos 0) ≡ false
+  order-is r s l g e =
+      let p = ltZ-yes (pos 0) (adjustedTotal y r) (rw (adjusted-is r (omega arith)) at e) in
+      let m = adjusted-order y r s l g (omega arith) in
+      rw (adjusted-is s g) (le-ltZ (adjustedTotal y s) (pos 0) (omega arith))
 
 -- THE CERTIFICATE, of answers that meet the contracts of settling, the step view and the cutter
 pub certified : (d b book : List ℕ) (view : ℕ → ℕ → View) (cut : ℕ → Cut) → dayFault d ≡ 0
@@ -178,6 +172,8 @@ pub certified : (d b book : List ℕ) (view : ℕ → ℕ → View) (cut : ℕ �
     → ((k : ℕ) → cut k ≡ cutAnswer (lineAt d k)) → Certified d book view cut
 certified d b book view cut h l settled viewed cutted =
     let rest = drop (bookLength (lineCount d)) b in
+    let y = settledDay d in
+    let z = settled-sized d (accepted-day d h) in
     let vs : (k j : ℕ) → k < lineCount d → j < stepCount (lineAt d k) → view k j ≡ viewOf d k j = λ k j g i. viewed k j ∙ view-whole d h k j g i in
     let cs : (k : ℕ) → k < lineCount d → cut k ≡ cutOf (lineAt d k) = λ k g. cutted k ∙ cut-whole d h k g in
     rw (settled ∙ after-settling d b (settle-taken d h b l))
@@ -195,7 +191,7 @@ certified d b book view cut h l settled viewed cutted =
       falls = falls d h view cut vs cs;
       rises = rises d h view cut vs cs;
       balance = balance d h view cut vs cs;
-      lines = lines-is d h rest;
-      adjusted-sum = sum-is d h rest;
-      adjusted-order = order-is d h rest;
+      lines = lines-is y z rest;
+      adjusted-sum = sum-is y z rest;
+      adjusted-order = order-is y z rest;
     })

@@ -6,9 +6,9 @@ use lib.ListN.{length}
 use Rattle.rules.specs.Fold.{refuse, _orElse_, first, before, sumTo, mostTo}
 use Rattle.rules.specs.Layout.{lineCount, lineAt}
 use Rattle.rules.specs.Steps.{bidMost, greatestBreak}
-use Rattle.rules.specs.Quantities.{pricingIn, pricingTotal, operatingTotal}
+use Rattle.rules.specs.Quantities.{pricingIn, pricingTotal, tableTotal}
 use Rattle.rules.specs.Refusals.{headerFault, marketPriceFault, markFault, marketFault, breakFault, outOfOrder, orderFault, priceFault, unusedFault, bidFault}
-use Rattle.rules.specs.Refusals.{totalFault, actualFault, lineFault, lineFaultAt, sameKey, pairFault, keyFault, dayFault}
+use Rattle.rules.specs.Refusals.{totalFault, actualFault, lineFaultWith, lineFault, lineFaultAt, sameKey, pairFault, keyFault, dayFault}
 use Rattle.rules.specs.Figures.{k10Day}
 use Rattle.rules.specs.Cutting.{cutAnswer}
 use Rattle.rules.specs.Viewing.{viewAnswer}
@@ -23,8 +23,8 @@ use Rattle.certificate.specs.Proof.{certified}
 -- K10's day has none of settling's faults, by computation
 pub k10-accepted : dayFault k10Day ≡ 0
 unfolding refuse _orElse_ first before sumTo mostTo headerFault marketPriceFault markFault marketFault breakFault
-    outOfOrder orderFault priceFault unusedFault bidFault totalFault actualFault lineFault lineFaultAt sameKey
-    pairFault keyFault dayFault bidMost greatestBreak pricingIn pricingTotal operatingTotal le
+    outOfOrder orderFault priceFault unusedFault bidFault totalFault actualFault lineFaultWith lineFault lineFaultAt sameKey
+    pairFault keyFault dayFault bidMost greatestBreak pricingIn pricingTotal tableTotal le
 k10-accepted = refl
 
 -- and so it is certified, with its book in any lent one of at least 152 bytes

@@ -6,7 +6,7 @@ ghost use Rattle.rules.specs.Refusals.{settleFault};
 ghost use Rattle.rules.specs.Book.{bookAfter};
 ghost use Rattle.certificate_calls.specs.Calls.{CertifiedDay};
 use cutter::cut;
-use day::header::line_part;
+use day_header::line_part;
 use settling::settle;
 use view::view;
 

@@ -16,9 +16,9 @@ fn print(v: u64) {
 }
 
 fn show(day: &[u8], k: usize) {
-    let part = day::header::line_part(day, k);
+    let part = day_header::line_part(day, k);
     io::print_decimal(1, size(k));
-    print(wide(day::header::line_part_number(day, k)));
+    print(wide(day_header::line_part_number(day, k)));
     print(size(part.len()));
     if part.len() > 3 {
         print(byte(part[0]));

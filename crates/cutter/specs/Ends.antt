@@ -13,7 +13,7 @@ use Rattle.rules.specs.Fold.{joined, listTo}
 use Rattle.rules.specs.Layout.{quantityMost, hedge, bidCount, bidBreak}
 use Rattle.rules.specs.Steps.{ends, hedgePoint, bidBreaks, stepCount, upperEnd, greatestBreak, bidMost}
 use Rattle.laws.specs.Folds.{joined-none, joined-suc, list-length, most-least, most-term}
-use Rattle.laws.specs.Accepted.{AcceptedLine}
+use Rattle.laws.specs.Accepted.{AcceptedWith, AcceptedLine}
 use Rattle.cutter.specs.Lists.{_∈_, here, in-cons, in-none, in-left, in-right, in-append, in-at, place-of}
 use Rattle.cutter.specs.Lists.{in-list, list-in, in-joined, joined-in, in-rising, rising-in}
 use Rattle.cutter.specs.Lists.{Rises, rises-rising, rising-length, rises-mono}
@@ -86,7 +86,7 @@ pub most-of : (w : List ℕ) (m : ℕ) → ((s j : ℕ) → s < 5 → j < bidCou
 unfolding greatestBreak bidMost
 most-of w m h = most-least 5 m (bidMost w) (λ s a. most-least (bidCount w s) m (bidBreak w s) (λ j b. h s j a b))
 
-pub most-limit : (w : List ℕ) → AcceptedLine w → greatestBreak w ≤ quantityMost
+pub most-limit : {t : List (List ℕ)} (w : List ℕ) → AcceptedWith t w → greatestBreak w ≤ quantityMost
 most-limit w h = most-of w quantityMost (λ s j a b. h .bids s a .break-most j b)
 
 pub ends-rise : (w : List ℕ) → AcceptedLine w → Rises 0 (ends w)

@@ -3,6 +3,7 @@ pub mod read_step;
 pub mod steps;
 
 use crate::steps::steps;
+use layout::header::LINE_BYTES;
 use line::line_number;
 use rules::Cut;
 ghost use mathlib.Core.Path.{_≡_};
@@ -26,7 +27,7 @@ fn refused(number: u32) -> Cut
 pub fn cut(line: &[u8]) -> Cut
     ensures { λ r. ⌜ r ≡ cutAnswer (now (line .entry)) ⌝ }
 {
-    if line.len() != 660 {
+    if line.len() != LINE_BYTES {
         return refused(18);
     }
     let number = line_number(line);

@@ -1,13 +1,13 @@
 // The steps of an accepted line (document 01, "Steps and prices"): the least of the cursors' breaks and of the hedge that is above the
 // last end is the next end, and where a cursor stands gives the step's price and flag in its schedule. No cursor moves back, and
 // nothing in a step is decided by a branch.
-use bytes_le::word_at;
 use cutter_cursors::cursors::Words;
 use cutter_cursors::cursors::next_gap;
 use cutter_cursors::cursors::passed;
 use cutter_cursors::cursors::start;
-use cutter_cursors::step_prices::marked;
-use cutter_cursors::step_prices::put_prices;
+use cutter_prices::marked;
+use cutter_prices::put_prices;
+use layout::fields::hedge;
 use rules::Cut;
 ghost use mathlib.Core.Path.{_≡_};
 ghost use Rattle.rules.specs.Cutting.{cutOf};
@@ -22,7 +22,7 @@ pub fn steps(line: &[u8]) -> Cut
     requires { ⌜ Line (now line) ⌝ }
     ensures { λ r. ⌜ r ≡ cutOf (now (line .entry)) ⌝ }
 {
-    let hedge = word_at(line, 16);
+    let hedged = hedge(line);
     let mut ends = [0u32; 56];
     let mut prices = [0u32; 280];
     let mut words = Words {
@@ -34,7 +34,7 @@ pub fn steps(line: &[u8]) -> Cut
     };
     let mut at = start(line);
     let mut end: u32 = 0;
-    let mut far = next_gap(at, hedge, end);
+    let mut far = next_gap(at, hedged, end);
     let mut n: usize = 0;
     while far < FAR {
         end = end + 1 + far;
@@ -42,7 +42,7 @@ pub fn steps(line: &[u8]) -> Cut
         put_prices(line, &mut prices, at, n);
         words = marked(words, at, end, n);
         at = passed(line, at, end);
-        far = next_gap(at, hedge, end);
+        far = next_gap(at, hedged, end);
         n += 1;
     }
     Cut {

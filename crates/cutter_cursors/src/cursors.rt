@@ -1,16 +1,15 @@
 // The cutter's five cursors (document 01, "Steps and prices"): one for each schedule's bid, at the first break above the last end, or at
 // the bid's last where there is none. The least of their breaks and of the hedge that is above the last end is the next end.
-use bytes_le::word_at;
-use line_bids::breaks::count_of;
+use layout::bids::bid_break;
+use layout::bids::bid_count;
 use numbers::bit;
 use numbers::index;
 use numbers::lesser;
 use std::num::wrapping_sub_u32;
 ghost use mathlib.Core.Path.{_≡_};
 ghost use Prim.Native.Nat.{_≤_, _<_};
-ghost use lib.ListN.{length};
 ghost use lib.Dec.{eqb};
-ghost use Rattle.rules.specs.Layout.{bidCount, bidBreak};
+ghost use Rattle.rules.specs.Layout.{bidCount};
 ghost use Rattle.rules.specs.Payments as paper;
 ghost use Rattle.cutter_cursors.specs.Sweep.{Line, BidRead, SweepWithin, Limited, past, cursorAt, cursorMoved, stopOf, stepAfter};
 ghost use Rattle.cutter_cursors.specs.Sweep.{gapOf, nextGap, sweepFor, sweepMoved};
@@ -44,13 +43,6 @@ pub struct Words {
     pub fifth: u64,
 }
 
-fn bid_break(line: &[u8], s: usize, j: usize) -> u32
-    requires { ⌜ (length (now line) ≡ 660) × (s < 5) × (j < 11) ⌝ }
-    ensures { λ r. ⌜ r ≡ bidBreak (now (line .entry)) s j ⌝ }
-{
-    word_at(line, 4 * (5 + 23 * s + 1 + j))
-}
-
 // 1 where a is b, else 0.
 fn same(a: u32, b: u32) -> usize
     ensures { λ r. ⌜ r ≡ paper.bit (eqb a b) ⌝ }
@@ -81,7 +73,7 @@ fn moved(line: &[u8], s: usize, c: Cursor, u: u32) -> Cursor
     requires { ⌜ BidRead (now line) s × (c .at < bidCount (now line) s) × (u < past) ⌝ }
     ensures { λ r. ⌜ r ≡ cursorMoved (now (line .entry)) s c u ⌝ }
 {
-    let at = step_after(c, u, count_of(line, s) - 1);
+    let at = step_after(c, u, bid_count(line, s) - 1);
     Cursor {
         at,
         head: bid_break(line, s, at),

@@ -1,3 +1,2 @@
-// The cutter's cursors: the next end, and the prices and flags of a step.
+// The cutter's cursors and the next end.
 pub mod cursors;
-pub mod step_prices;

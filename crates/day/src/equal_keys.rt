@@ -1,5 +1,8 @@
 // Refusal 14: two lines with the same participant, point and side.
-use crate::header::line_of;
+use layout::fields::participant;
+use layout::fields::point;
+use layout::fields::side;
+use layout::header::line_of;
 ghost use mathlib.Core.Path.{_≡_};
 ghost use Prim.Native.Nat.{_+_, _*_, _≤_, _<_};
 ghost use lib.ListN.{length};
@@ -11,13 +14,13 @@ fn same_key(v: &[u8], w: &[u8]) -> bool
     requires { ⌜ (length (now v) ≡ 660) × (length (now w) ≡ 660) ⌝ }
     ensures { λ r. ⌜ r ≡ sameKey (now (v .entry)) (now (w .entry)) ⌝ }
 {
-    if bytes_le::word_at(v, 0) != bytes_le::word_at(w, 0) {
+    if participant(v) != participant(w) {
         return false;
     }
-    if bytes_le::word_at(v, 4) != bytes_le::word_at(w, 4) {
+    if point(v) != point(w) {
         return false;
     }
-    if bytes_le::word_at(v, 8) != bytes_le::word_at(w, 8) {
+    if side(v) != side(w) {
         return false;
     }
     true

@@ -1,12 +1,12 @@
 // The day file: its number, from the header, the market table, the lines and their keys.
 mod equal_keys;
-pub mod header;
 mod market;
 
 use crate::equal_keys::keys_number;
-use crate::header::header_number;
-use crate::header::line_count;
 use crate::market::market_number;
+use day_header::header_number;
+use layout::header::LINES_AT;
+use layout::header::line_count;
 ghost use mathlib.Core.Path.{_≡_};
 ghost use Rattle.rules.specs.Refusals.{dayFault};
 
@@ -23,7 +23,7 @@ pub fn day_number(day: &[u8]) -> u32
         return market;
     }
     let n = line_count(day);
-    let lines = line::lines_number(day, 64, n);
+    let lines = line::lines_number(day, LINES_AT, n);
     if lines != 0 {
         return lines;
     }

@@ -1,6 +1,9 @@
 // The market table's refusals: refusals 4 and 5.
-use line_bids::units::Price;
-use line_bids::units::PriceRead;
+use layout::market::cap_mark;
+use layout::market::clawback;
+use layout::market::market_place;
+use units::Price;
+use units::price_refusal;
 ghost use mathlib.Core.Path.{_≡_};
 ghost use Prim.Native.Nat.{_≤_};
 ghost use lib.ListN.{length};
@@ -14,12 +17,9 @@ fn market_prices_number(day: &[u8]) -> u32
 {
     let mut s = 0;
     while s < 5 {
-        let read = Price::read(day, 16 + 4 * s);
-        match read {
-            PriceRead::Within(_) => {}
-            PriceRead::Above => {
-                return 4;
-            }
+        let fault = price_refusal(Price::read(day, market_place(s)), 4);
+        if fault != 0 {
+            return fault;
         }
         s += 1;
     }
@@ -33,7 +33,7 @@ fn marks_number(day: &[u8]) -> u32
 {
     let mut s = 0;
     while s < 5 {
-        if 1 < bytes_le::word_at(day, 16 + 4 * (5 + s)) {
+        if 1 < cap_mark(day, s) {
             return 5;
         }
         s += 1;
@@ -50,14 +50,15 @@ pub fn market_number(day: &[u8]) -> u32
     if prices != 0 {
         return prices;
     }
-    if Price::MOST < bytes_le::word_at(day, 56) {
-        return 4;
+    let cap = price_refusal(Price::read(day, market_place(10)), 4);
+    if cap != 0 {
+        return cap;
     }
     let marks = marks_number(day);
     if marks != 0 {
         return marks;
     }
-    if 1 < bytes_le::word_at(day, 60) {
+    if 1 < clawback(day) {
         return 5;
     }
     0

@@ -1,11 +1,11 @@
 // Pools of a line's steps and of a side's lines, and what a line is paid.
-use cutter::read_step::flag_row;
-use cutter::read_step::price_row;
-use day::header::line_count;
-use day::header::line_of;
+use layout::fields::side;
+use layout::header::line_count;
+use layout::header::line_of;
+use line_quantities::rows::operating_table;
 use step_finals::finals::money_with;
 use step_inputs::inputs::Market;
-use step_inputs::inputs::step_of;
+use step_inputs::inputs::step_at;
 use step_inputs::inputs::totals_of;
 use step_payments::amounts::Money;
 use step_pool::adding::pool_add;
@@ -15,6 +15,7 @@ ghost use mathlib.Core.Path.{_≡_};
 ghost use Prim.Native.Nat.{_<_};
 ghost use Rattle.rules.specs.Layout.{lineCount, lineAt, side};
 ghost use Rattle.rules.specs.Steps.{stepCount};
+ghost use Rattle.rules.specs.Days.{settledDay};
 ghost use Rattle.laws.specs.Accepted.{AcceptedDay};
 ghost use Rattle.step_inputs.specs.Inputs.{marketOf};
 ghost use Rattle.step_pool.specs.Amounts.{noPool};
@@ -43,10 +44,10 @@ pub fn empty_pool() -> SidePool
 // The pool of line k's steps. The loop maintains that `pool` is that of the first j steps, and `lower` the last of their ends.
 fn line_pool(day: &[u8], k: usize, m: Market) -> SidePool
     requires { ⌜ (AcceptedDay (now day)) × (k < lineCount (now day)) × (m ≡ marketOf (now day)) ⌝ }
-    ensures { λ r. ⌜ r ≡ linePool (now (day .entry)) k ⌝ }
+    ensures { λ r. ⌜ r ≡ linePool (settledDay (now (day .entry))) k ⌝ }
 {
     let line = line_of(day, k);
-    let t = totals_of(line);
+    let t = totals_of(line, operating_table(line));
     let cut = cutter::steps::steps(line);
     let ends = cut.ends;
     let prices = cut.prices;
@@ -56,17 +57,9 @@ fn line_pool(day: &[u8], k: usize, m: Market) -> SidePool
     let mut lower = 0;
     let mut j = 0;
     while j < n {
-        let upper = ends[j];
-        let x = step_of(
-            m,
-            t,
-            lower,
-            upper,
-            price_row(&prices, j),
-            flag_row(flags, j),
-        );
+        let x = step_at(day, k, m, t, &ends, &prices, flags, lower, j);
+        lower = x.upper;
         pool = pool_with(pool, x);
-        lower = upper;
         j += 1;
     }
     pool
@@ -75,10 +68,10 @@ fn line_pool(day: &[u8], k: usize, m: Market) -> SidePool
 // What line k adds to the pool of a side.
 fn side_part(day: &[u8], k: usize, m: Market, sd: u32) -> SidePool
     requires { ⌜ (AcceptedDay (now day)) × (k < lineCount (now day)) × (m ≡ marketOf (now day)) ⌝ }
-    ensures { λ r. ⌜ r ≡ sidePart (now (day .entry)) sd k ⌝ }
+    ensures { λ r. ⌜ r ≡ sidePart (settledDay (now (day .entry))) sd k ⌝ }
 {
     let line = line_of(day, k);
-    if bytes_le::word_at(line, 8) != sd {
+    if side(line) != sd {
         return empty_pool();
     }
     line_pool(day, k, m)
@@ -87,7 +80,7 @@ fn side_part(day: &[u8], k: usize, m: Market, sd: u32) -> SidePool
 // The pool of a side. The loop maintains that `pool` is what the lines before k add to it.
 pub fn side_pool(day: &[u8], m: Market, sd: u32) -> SidePool
     requires { ⌜ (AcceptedDay (now day)) × (m ≡ marketOf (now day)) ⌝ }
-    ensures { λ r. ⌜ r ≡ sidePool (now (day .entry)) sd ⌝ }
+    ensures { λ r. ⌜ r ≡ sidePool (settledDay (now (day .entry))) sd ⌝ }
 {
     let n = line_count(day);
     let mut pool = empty_pool();
@@ -102,7 +95,7 @@ pub fn side_pool(day: &[u8], m: Market, sd: u32) -> SidePool
 // The pool of a side, or none where clawback is off: no payment reads it then.
 pub fn pool_for(day: &[u8], m: Market, sd: u32) -> SidePool
     requires { ⌜ (AcceptedDay (now day)) × (m ≡ marketOf (now day)) ⌝ }
-    ensures { λ r. ⌜ PoolFor (now (day .entry)) sd r ⌝ }
+    ensures { λ r. ⌜ PoolFor (settledDay (now (day .entry))) sd r ⌝ }
 {
     if m.clawback == 0 {
         return empty_pool();
@@ -113,13 +106,14 @@ pub fn pool_for(day: &[u8], m: Market, sd: u32) -> SidePool
 // What line k is paid, with the pool of its side. The loop maintains that `money` is what the first j steps are paid, and `lower` the last
 // of their ends.
 pub fn line_paid(day: &[u8], k: usize, m: Market, p: SidePool) -> LinePaid
-    requires { ⌜ (AcceptedDay (now day)) × (k < lineCount (now day)) × (m ≡ marketOf (now day)) × (PoolFor (now day) (side (lineAt (now day) k)) p) ⌝ }
+    requires { ⌜ (AcceptedDay (now day)) × (k < lineCount (now day)) × (m ≡ marketOf (now day))
+        × (PoolFor (settledDay (now day)) (side (lineAt (now day) k)) p) ⌝ }
     ensures { λ r.
         ⌜ (r .count ≡ stepCount (lineAt (now (day .entry)) k))
-        × (r .money ≡ moneyTo (stepCount (lineAt (now (day .entry)) k)) (stepMoney (now (day .entry)) k)) ⌝ }
+        × (r .money ≡ moneyTo (stepCount (lineAt (now (day .entry)) k)) (stepMoney (settledDay (now (day .entry))) k)) ⌝ }
 {
     let line = line_of(day, k);
-    let t = totals_of(line);
+    let t = totals_of(line, operating_table(line));
     let cut = cutter::steps::steps(line);
     let ends = cut.ends;
     let prices = cut.prices;
@@ -134,17 +128,9 @@ pub fn line_paid(day: &[u8], k: usize, m: Market, p: SidePool) -> LinePaid
     let mut lower = 0;
     let mut j = 0;
     while j < n {
-        let upper = ends[j];
-        let x = step_of(
-            m,
-            t,
-            lower,
-            upper,
-            price_row(&prices, j),
-            flag_row(flags, j),
-        );
+        let x = step_at(day, k, m, t, &ends, &prices, flags, lower, j);
+        lower = x.upper;
         money = money_with(money, x, claw, p);
-        lower = upper;
         j += 1;
     }
     LinePaid { count, money }

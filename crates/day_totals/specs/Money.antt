@@ -3,14 +3,12 @@ use Prim.Native.Nat.{ℕ, _*_, _≤_, _<_}
 use native.Mathlib.Nat.{zero-sub, zero-mul}
 use native.Mathlib.Omega.{arith}
 use mathlib.Core.Path.{_≡_, refl, _∙_}
-use mathlib.Core.List.{List}
 use mathlib.Core.Bool.{Bool, true, false, cond}
 use lib.IntN.{ℤ, pos, subℕ, _*ℤ_}
 use Rattle.rules.specs.Fold.{sumZ, at, before, atZ}
-use Rattle.rules.specs.Layout.{mostLines, quantityMost, priceMost, lineCount, lineAt, side, clawback}
-use Rattle.rules.specs.Steps.{stepCount}
+use Rattle.rules.specs.Layout.{mostLines, quantityMost, priceMost}
 use Rattle.rules.specs.Matching.{earlier}
-use Rattle.rules.specs.Payments.{onStep, rate, isPaid, initial, finalPayment, Pool, stepOf, poolOf, stepFinal}
+use Rattle.rules.specs.Payments.{onStep, rate, isPaid, initial, finalPayment, Pool, Day, poolOf, stepFinal}
 use Rattle.rules.specs.declared.Step.{Step}
 use Rattle.rules.specs.Totals.{linePayment, total, totals, adjustedTotal}
 use Rattle.laws.specs.Folds.{at-five}
@@ -29,40 +27,40 @@ unfolding finalPayment initial earlier before
 first-final x claw p = initial-by (isPaid x 0) (at (onStep x) 0) (rate x 0)
 
 -- t(1) is not below 0
-pub first-total : (d : List ℕ) → mi (total d 0) ≡ 0
+pub first-total : (y : Day) → mi (total y 0) ≡ 0
 unfolding total linePayment stepFinal
-first-total d =
-    sumZ-whole (lineCount d) (linePayment d 0)
-    (λ k l. sumZ-whole (stepCount (lineAt d k)) (stepFinal d 0 k) (λ j g. first-final (stepOf d k j) (clawback d) (poolOf d (side (lineAt d k)) 0)))
+first-total y =
+    sumZ-whole (y .lines) (linePayment y 0)
+    (λ k l. sumZ-whole (y .count k) (stepFinal y 0 k) (λ j g. first-final (y .step k j) (y .clawback) (poolOf y (y .side k) 0)))
 
 -- the payments of line k in the five schedules
-unfoldable pub linePayments : List ℕ → ℕ → ℤ
-linePayments d k = sumZ 5 (λ s. linePayment d s k)
+unfoldable pub linePayments : Day → ℕ → ℤ
+linePayments y k = sumZ 5 (λ s. linePayment y s k)
 
 -- the five totals add up to all payments
-pub totals-sum : (d : List ℕ) → sumZ 5 (total d) ≡ sumZ (lineCount d) (linePayments d)
+pub totals-sum : (y : Day) → sumZ 5 (total y) ≡ sumZ (y .lines) (linePayments y)
 unfolding total linePayments
-totals-sum d = sumZ-swap 5 (lineCount d) (linePayment d)
+totals-sum y = sumZ-swap 5 (y .lines) (linePayment y)
 
 -- and so do the five adjusted totals
-pub adjusted-payments : (d : List ℕ) → sumZ 5 (adjustedTotal d) ≡ sumZ (lineCount d) (linePayments d)
+pub adjusted-payments : (y : Day) → sumZ 5 (adjustedTotal y) ≡ sumZ (y .lines) (linePayments y)
 unfolding adjustedTotal totals
-adjusted-payments d =
-    adjusted-sum (totals d) (first-total d)
-    ∙ sumZ-same 5 (atZ (totals d)) (total d) (at-five (total d) (pos 0))
-    ∙ totals-sum d
+adjusted-payments y =
+    adjusted-sum (totals y) (first-total y)
+    ∙ sumZ-same 5 (atZ (totals y)) (total y) (at-five (total y) (pos 0))
+    ∙ totals-sum y
 
-pub adjusted-order : (d : List ℕ) (r s : ℕ) → r < s → s < 5 → 0 < pl (adjustedTotal d r) → mi (adjustedTotal d s) ≡ 0
+pub adjusted-order : (y : Day) (r s : ℕ) → r < s → s < 5 → 0 < pl (adjustedTotal y r) → mi (adjustedTotal y s) ≡ 0
 unfolding adjustedTotal totals
-adjusted-order d r s l g p = none-owed (totals d) (first-total d) r s l g p
+adjusted-order y r s l g p = none-owed (totals y) (first-total y) r s l g p
 
 -- totals of lines that are each paid at most the limits of quantity and price multiplied
-pub totals-bounded : (d : List ℕ) → lineCount d ≤ mostLines → ((k s : ℕ) → k < lineCount d → s < 5 → size (linePayment d s k) ≤ quantityMost * priceMost) → Bounded (totals d)
+pub totals-bounded : (y : Day) → y .lines ≤ mostLines → ((k : ℕ) → k < y .lines → (s : ℕ) → s < 5 → size (linePayment y s k) ≤ quantityMost * priceMost) → Bounded (totals y)
 unfolding totals total
-totals-bounded d c h =
+totals-bounded y c h =
     record {
       most =
           λ s l.
-          let m = sumZ-size (lineCount d) (quantityMost * priceMost) (linePayment d s) (λ k g. h k s g l) in
-          rw (at-five (total d) (pos 0) s l) (omega arith);
+          let m = sumZ-size (y .lines) (quantityMost * priceMost) (linePayment y s) (λ k g. h k g s l) in
+          rw (at-five (total y) (pos 0) s l) (omega arith);
     }

@@ -20,6 +20,7 @@ pub part-none : (d : List ℕ) (k n : ℕ) → n ≡ linePartFault d k → (n �
 unfolding partAt partLength linePart
 part-none d k n e h = (e, rw (ne-eqb (linePartFault d k) 0 (λ z. h (e ∙ z))) (refl, (refl, refl)))
 
-pub part-some : (d : List ℕ) (k n : ℕ) → n ≡ linePartFault d k → n ≡ 0 → (0 ≡ linePartFault d k) × ((64 + 660 * k ≡ partAt d k) × ((660 ≡ partLength d k) × (take 660 (drop (64 + 660 * k) d) ≡ linePart d k)))
+pub part-some : (d : List ℕ) (k n p : ℕ) → n ≡ linePartFault d k → n ≡ 0 → p ≡ 64 + 660 * k
+    → (0 ≡ linePartFault d k) × ((p ≡ partAt d k) × ((660 ≡ partLength d k) × (take 660 (drop p d) ≡ linePart d k)))
 unfolding partAt partLength linePart
-part-some d k n e z = (sym z ∙ e, rw (eq-eqb (linePartFault d k) 0 (sym e ∙ z)) (refl, (refl, refl)))
+part-some d k n p e z h = rw h (sym z ∙ e, rw (eq-eqb (linePartFault d k) 0 (sym e ∙ z)) (refl, (refl, refl)))

@@ -1,5 +1,7 @@
 // The line part for other languages.
-use day::header::line_part_number;
+use day_header::line_part_number;
+use layout::header::LINE_BYTES;
+use layout::header::line_place;
 ghost use mathlib.Core.Path.{_≡_};
 ghost use lib.ListN.{take, drop};
 ghost use Rattle.rules.specs.Refusals.{linePartFault, linePart};
@@ -25,7 +27,7 @@ pub extern "C" fn mewikofu_line_part(
         *length = 0;
         return number;
     }
-    *at = 64 + 660 * k;
-    *length = 660;
+    *at = line_place(k);
+    *length = LINE_BYTES;
     0
 }

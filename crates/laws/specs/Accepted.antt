@@ -10,11 +10,11 @@ use borrow.Author.Tests.{ltb-false, leb-false, eqb-true, eqb-false, not-false}
 use Rattle.rules.specs.Fold.{refuse, first, before}
 use Rattle.rules.specs.Layout.{quantityMost, priceMost, lineCount, fileLength}
 use Rattle.rules.specs.Layout.{marketPrice, capMark, priceCap, clawback, lineAt, side, accreditation, hedge, withdrawal}
-use Rattle.rules.specs.Layout.{bidCount, bidBreak, bidPrice, actualEntry}
+use Rattle.rules.specs.Layout.{bidCount, bidBreak, bidPrice, operatingTable, actualEntry}
 use Rattle.rules.specs.Steps.{greatestBreak}
-use Rattle.rules.specs.Quantities.{pricingTotal, operatingTotal}
+use Rattle.rules.specs.Quantities.{pricingTotal, tableTotal}
 use Rattle.rules.specs.Refusals.{headerFault, marketPriceFault, markFault, marketFault, breakFault, outOfOrder, orderFault, priceFault, unusedFault, bidFault}
-use Rattle.rules.specs.Refusals.{totalFault, actualFault, lineFault, lineFaultAt, sameKey, pairFault, keyFault, dayFault}
+use Rattle.rules.specs.Refusals.{totalFault, actualFault, lineFaultWith, lineFault, lineFaultAt, sameKey, pairFault, keyFault, dayFault}
 use Rattle.laws.specs.Folds.{refuse-zero, orElse-both, first-at, Both}
 
 -- a test that was not met
@@ -73,20 +73,25 @@ accepted-bid w s e =
       unused-price = λ i h. equal 9 _ 0 (uns i h .right);
     }
 
--- one line: refusals 6 to 13
-pub record AcceptedLine (w : List ℕ) : Type 0 where
+-- one line: refusals 6 to 13, with a table of operating quantities
+pub record AcceptedWith (t : List (List ℕ)) (w : List ℕ) : Type 0 where
   pub side-most : side w ≤ 1
   pub accreditation-most : accreditation w ≤ 1
   pub bids : (s : ℕ) → s < 5 → AcceptedBid w s
   pub hedge-most : hedge w ≤ greatestBreak w
   pub hedge-withdrawal : withdrawal (side w) ≡ true → hedge w ≡ 0
   pub pricing-most : (s : ℕ) → s < 5 → pricingTotal w s ≤ greatestBreak w
-  pub operating-most : (s : ℕ) → s < 5 → operatingTotal w s ≤ greatestBreak w
+  pub operating-most : (s : ℕ) → s < 5 → tableTotal t s ≤ greatestBreak w
   pub actual-most : (i : ℕ) → i < 5 → actualEntry w i ≤ 200000000
 
-total-both : (w : List ℕ) (s : ℕ) → totalFault w s ≡ 0 → Both (refuse 12 (ltb (greatestBreak w) (pricingTotal w s))) (refuse 12 (ltb (greatestBreak w) (operatingTotal w s)))
+-- with the line's own
+abbrev pub AcceptedLine : List ℕ → Type 0
+AcceptedLine w = AcceptedWith (operatingTable w) w
+
+total-both : (t : List (List ℕ)) (w : List ℕ) (s : ℕ) → totalFault t w s ≡ 0
+    → Both (refuse 12 (ltb (greatestBreak w) (pricingTotal w s))) (refuse 12 (ltb (greatestBreak w) (tableTotal t s)))
 unfolding totalFault
-total-both w s e = orElse-both _ _ e
+total-both t w s e = orElse-both _ _ e
 
 actual-is : (w : List ℕ) (i : ℕ) → actualFault w i ≡ 0 → actualEntry w i ≤ 200000000
 unfolding actualFault
@@ -96,9 +101,9 @@ and-false : (a b : Bool) → (a && b) ≡ false → a ≡ true → b ≡ false
 and-false true b e h = e
 and-false false b e h = absurd (true≢false (sym h))
 
-pub accepted-line : (w : List ℕ) → lineFault w ≡ 0 → AcceptedLine w
-unfolding lineFault
-accepted-line w e =
+pub accepted-with : (t : List (List ℕ)) (w : List ℕ) → lineFaultWith t w ≡ 0 → AcceptedWith t w
+unfolding lineFaultWith
+accepted-with t w e =
     let b1 = orElse-both _ _ e in
     let b2 = orElse-both _ _ (b1 .right) in
     let b3 = orElse-both _ _ (b2 .right) in
@@ -112,10 +117,14 @@ accepted-line w e =
       hedge-most = at-most 10 (greatestBreak w) (hedge w) (b4 .left);
       hedge-withdrawal =
           λ h. eqb-true (hedge w) 0 (not-false (eqb (hedge w) 0) (and-false _ _ (refuse-zero 10 _ (b5 .left)) h));
-      pricing-most = λ s h. at-most 11 _ _ (total-both w s (first-at _ 5 (b6 .left) s h) .left);
-      operating-most = λ s h. at-most 11 _ _ (total-both w s (first-at _ 5 (b6 .left) s h) .right);
+      pricing-most = λ s h. at-most 11 _ _ (total-both t w s (first-at _ 5 (b6 .left) s h) .left);
+      operating-most = λ s h. at-most 11 _ _ (total-both t w s (first-at _ 5 (b6 .left) s h) .right);
       actual-most = λ i h. actual-is w i (first-at _ 5 (b6 .right) i h);
     }
+
+pub accepted-line : (w : List ℕ) → lineFault w ≡ 0 → AcceptedLine w
+unfolding lineFault
+accepted-line w e = accepted-with (operatingTable w) w e
 
 -- the header: refusals 1 to 3
 pub record AcceptedHeader (d : List ℕ) : Type 0 where

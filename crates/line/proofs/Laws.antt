@@ -7,8 +7,8 @@ use lib.ListN.{length, take, drop, length-take, length-drop}
 use lib.Seq.{take-all}
 use borrow.Author.Tests.{lt-ltb, le-ltb}
 use Rattle.rules.specs.Fold.{_orElse_, first}
-use Rattle.rules.specs.Layout.{side, accreditation, bidCount}
-use Rattle.rules.specs.Refusals.{breakFault, bidFault, lineFault}
+use Rattle.rules.specs.Layout.{side, accreditation, bidCount, operatingTable}
+use Rattle.rules.specs.Refusals.{breakFault, bidFault, lineFaultWith, lineFault}
 use Rattle.laws.specs.Folds.{stops, passes, ends-at, none-at, part-stops, part-passes, orElse-assoc, fold-stops}
 use Rattle.line.specs.Faults.{hedgeFault, limitsFault}
 use Rattle.line.specs.Parts.{lineFrom, headFault}
@@ -51,8 +51,8 @@ module _ (w : List ℕ) (s n : ℕ) (count : n ≡ bidCount w s) where
           ∙ sym (bid-is w s)
 
 -- the line, part by part
-line-is : (w : List ℕ) → lineFault w ≡ headFault w orElse (first (bidFault w) 5 orElse limitsFault w)
-unfolding lineFault headFault limitsFault hedgeFault
+line-is : (w : List ℕ) → lineFault w ≡ headFault w orElse (first (bidFault w) 5 orElse limitsFault (operatingTable w) w)
+unfolding lineFault lineFaultWith headFault limitsFault hedgeFault
 line-is w = simp orElse-assoc
 
 module _ (w : List ℕ) (h : ℕ) (head : h ≡ headFault w) where
@@ -64,8 +64,9 @@ module _ (w : List ℕ) (h : ℕ) (head : h ≡ headFault w) where
     line-bid s x p l e n =
         part-passes _ _ _ h head none (part-stops _ _ _ (fold-stops (bidFault w) 5 s x p l e n) n) ∙ sym (line-is w)
 
-    pub line-limits : (x : ℕ) → first (bidFault w) 5 ≡ 0 → x ≡ limitsFault w → x ≡ lineFault w
-    line-limits x p e = part-passes _ _ _ h head none (part-passes _ _ _ 0 (sym p) refl e) ∙ sym (line-is w)
+    pub line-limits : (x : ℕ) (t : List (List ℕ)) → first (bidFault w) 5 ≡ 0 → t ≡ operatingTable w → x ≡ limitsFault t w → x ≡ lineFault w
+    line-limits x t p o e =
+        part-passes _ _ _ h head none (part-passes _ _ _ 0 (sym p) refl (e ∙ ap (λ (z : List (List ℕ)). limitsFault z w) o)) ∙ sym (line-is w)
 
 -- line k among those from byte `at` on: the part of the bytes that the code lends
 module _ (b : List ℕ) (start k : ℕ) where

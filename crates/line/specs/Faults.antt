@@ -16,6 +16,6 @@ hedgeFault w m = refuse 11 (ltb m (hedge w)) orElse refuse 11 (withdrawal (side 
 unfoldable pub totalsFault : ℕ → List ℕ → List ℕ → ℕ → ℕ
 totalsFault m p o s = refuse 12 (ltb m (at p s)) orElse refuse 12 (ltb m (at o s))
 
--- refusals 11 to 13, one after another
-unfoldable pub limitsFault : List ℕ → ℕ
-limitsFault w = hedgeFault w (greatestBreak w) orElse first (totalFault w) 5 orElse first (actualFault w) 5
+-- refusals 11 to 13, one after another, with a table of operating quantities
+unfoldable pub limitsFault : List (List ℕ) → List ℕ → ℕ
+limitsFault t w = hedgeFault w (greatestBreak w) orElse first (totalFault t w) 5 orElse first (actualFault w) 5

@@ -1,5 +1,6 @@
 // M, the greatest break of a line's five bids (document 01, "Steps and prices").
-use line_bids::breaks::count_of;
+use layout::bids::bid_break;
+use layout::bids::bid_count;
 use numbers::greater;
 ghost use mathlib.Core.Path.{_≡_};
 ghost use Prim.Native.Nat.{_<_};
@@ -13,8 +14,7 @@ fn bid_most(line: &[u8], s: usize) -> u32
     requires { ⌜ (length (now line) ≡ 660) × (s < 5) × (bidFault (now line) s ≡ 0) ⌝ }
     ensures { λ r. ⌜ r ≡ bidMost (now (line .entry)) s ⌝ }
 {
-    let count = count_of(line, s);
-    bytes_le::word_at(line, 4 * (5 + 23 * s + 1 + (count - 1)))
+    bid_break(line, s, bid_count(line, s) - 1)
 }
 
 // M, where the bids are accepted.

@@ -3,10 +3,14 @@ mod greatest_break;
 mod limits;
 
 use crate::limits::limits_number;
+use layout::bids::bid_count;
+use layout::fields::accreditation;
+use layout::fields::side;
+use layout::header::LINE_BYTES;
 use line_bids::breaks::break_number;
 use line_bids::breaks::count_number;
-use line_bids::breaks::count_of;
 use line_bids::prices::slots_number;
+use line_quantities::rows::operating_table;
 ghost use mathlib.Core.Path.{_≡_};
 ghost use Prim.Native.Nat.{_+_, _*_, _≤_};
 ghost use lib.ListN.{length};
@@ -19,10 +23,10 @@ pub fn head_number(line: &[u8]) -> u32
     requires { ⌜ length (now line) ≡ 660 ⌝ }
     ensures { λ r. ⌜ r ≡ headFault (now (line .entry)) ⌝ }
 {
-    if bytes_le::word_at(line, 8) > 1 {
+    if side(line) > 1 {
         return 6;
     }
-    if bytes_le::word_at(line, 12) > 1 {
+    if accreditation(line) > 1 {
         return 6;
     }
     0
@@ -39,14 +43,14 @@ pub fn lines_number(b: &[u8], at: usize, n: usize) -> u32
         if n <= k {
             break 'lines 0;
         }
-        let from = at + 660 * k;
-        let line = &b[from..from + 660];
+        let from = at + LINE_BYTES * k;
+        let line = &b[from..from + LINE_BYTES];
         let head = head_number(line);
         if head != 0 {
             break 'lines head;
         }
         for s in 0..5 {
-            let count = count_of(line, s);
+            let count = bid_count(line, s);
             let counted = count_number(count);
             if counted != 0 {
                 break 'lines counted;
@@ -62,7 +66,7 @@ pub fn lines_number(b: &[u8], at: usize, n: usize) -> u32
                 break 'lines slots;
             }
         }
-        let limits = limits_number(line);
+        let limits = limits_number(line, operating_table(line));
         if limits != 0 {
             break 'lines limits;
         }

@@ -1,11 +1,13 @@
 // Refusals 11 to 13, which hold a line's hedge, totals and actuals to M and to the quantity limit.
 use crate::greatest_break::greatest_break;
-use line_bids::units::Quantity;
-use line_bids::units::QuantityRead;
-use line_quantities::rows::operating_table;
+use layout::fields::actual_place;
+use layout::fields::hedge;
+use layout::fields::side;
 use line_quantities::rows::pricing_totals;
 use line_quantities::sums::operating_totals;
 use numbers::wide;
+use units::Quantity;
+use units::quantity_refusal;
 ghost use mathlib.Core.Path.{_≡_};
 ghost use lib.ListN.{length};
 ghost use Rattle.rules.specs.Fold.{first};
@@ -17,12 +19,12 @@ pub fn hedge_number(line: &[u8], most: u32) -> u32
     requires { ⌜ length (now line) ≡ 660 ⌝ }
     ensures { λ r. ⌜ r ≡ hedgeFault (now (line .entry)) most ⌝ }
 {
-    let hedge = bytes_le::word_at(line, 16);
-    if most < hedge {
+    let hedged = hedge(line);
+    if most < hedged {
         return 11;
     }
-    if bytes_le::word_at(line, 8) == 1 {
-        if hedge != 0 {
+    if side(line) == 1 {
+        if hedged != 0 {
             return 11;
         }
     }
@@ -53,33 +55,26 @@ pub fn actuals_number(line: &[u8]) -> u32
 {
     let mut i = 0;
     while i < 5 {
-        let read = Quantity::read(line, 4 * (160 + i));
-        match read {
-            QuantityRead::Within(_) => {}
-            QuantityRead::Above => {
-                return 13;
-            }
+        let fault = quantity_refusal(Quantity::read(line, actual_place(i)), 13);
+        if fault != 0 {
+            return fault;
         }
         i += 1;
     }
     0
 }
 
-// Refusals 11 to 13, where the bids are accepted.
-pub fn limits_number(line: &[u8]) -> u32
+// Refusals 11 to 13, where the bids are accepted, with the table of operating quantities that counts for the line.
+pub fn limits_number(line: &[u8], table: [[u32; 5]; 5]) -> u32
     requires { ⌜ (length (now line) ≡ 660) × (first (bidFault (now line)) 5 ≡ 0) ⌝ }
-    ensures { λ r. ⌜ r ≡ limitsFault (now (line .entry)) ⌝ }
+    ensures { λ r. ⌜ r ≡ limitsFault table (now (line .entry)) ⌝ }
 {
     let most = greatest_break(line);
-    let hedge = hedge_number(line, most);
-    if hedge != 0 {
-        return hedge;
+    let hedging = hedge_number(line, most);
+    if hedging != 0 {
+        return hedging;
     }
-    let totals = totals_number(
-        wide(most),
-        pricing_totals(line),
-        operating_totals(operating_table(line)),
-    );
+    let totals = totals_number(wide(most), pricing_totals(line), operating_totals(table));
     if totals != 0 {
         return totals;
     }

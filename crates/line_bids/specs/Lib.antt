@@ -1,4 +1,3 @@
--- Quantity and price as kinds (Kinds), refusal 7 (Counts), refusals 9 and 10 of one bid (Slots).
-pub mod Kinds
+-- Refusal 7 (Counts), and refusals 9 and 10 of one bid (Slots).
 pub mod Counts
 pub mod Slots

@@ -1,4 +1,6 @@
 // Refusal 10: a bid's unused slots.
+use layout::bids::bid_break;
+use layout::bids::bid_price;
 ghost use mathlib.Core.Path.{_≡_};
 ghost use Prim.Native.Nat.{_-_, _≤_, _<_};
 ghost use lib.ListN.{length};
@@ -13,10 +15,10 @@ pub fn unused_number(line: &[u8], s: usize, count: usize) -> u32
 {
     let mut i = 0;
     while i < 11 - count {
-        if bytes_le::word_at(line, 4 * (5 + 23 * s + 1 + (count + i))) != 0 {
+        if bid_break(line, s, count + i) != 0 {
             return 10;
         }
-        if bytes_le::word_at(line, 4 * (5 + 23 * s + 12 + (count + i))) != 0 {
+        if bid_price(line, s, count + i) != 0 {
             return 10;
         }
         i += 1;

@@ -1,16 +1,15 @@
 -- Sums of rows of five.
-use Prim.Native.Nat.{ℕ, min}
+use Prim.Native.Nat.{ℕ, _<_, min}
+use mathlib.Core.Path.{_≡_, refl, ap}
 use mathlib.Core.List.{List, []}
-use lib.ListN.{getD}
-use Rattle.rules.specs.Fold.{sumTo, at}
+use Rattle.rules.specs.Fold.{sumTo, at, five}
+use Rattle.rules.specs.Layout.{operatingEntry, actualEntry}
+use Rattle.rules.specs.Quantities.{tableTotal, tableActual, actualIn, operatingTotal, effectiveActual}
+use Rattle.laws.specs.Folds.{at-five}
 
 -- the sum of a row of five
 unfoldable pub rowSum : List ℕ → ℕ
 rowSum r = sumTo 5 (at r)
-
--- the sum of row s of a table
-unfoldable pub tableTotal : List (List ℕ) → ℕ → ℕ
-tableTotal t s = rowSum (getD t s [])
 
 -- the sum of the lesser of two rows, place by place
 unfoldable pub lesserAt : List ℕ → List ℕ → ℕ → ℕ
@@ -18,3 +17,12 @@ lesserAt a b i = min (at a i) (at b i)
 
 unfoldable pub lesserSum : List ℕ → List ℕ → ℕ
 lesserSum a b = sumTo 5 (lesserAt a b)
+
+-- with a line's own table, the totals are sums of its words
+pub operating-is : (w : List ℕ) (s : ℕ) → s < 5 → operatingTotal w s ≡ sumTo 5 (operatingEntry w s)
+unfolding tableTotal sumTo
+operating-is w s h = ap (λ (r : List ℕ). sumTo 5 (at r)) (at-five (λ (k : ℕ). five (operatingEntry w k)) [] s h)
+
+pub actual-is : (w : List ℕ) → effectiveActual w ≡ sumTo 5 (λ (i : ℕ). min (operatingEntry w 4 i) (actualEntry w i))
+unfolding tableActual actualIn sumTo
+actual-is w = refl

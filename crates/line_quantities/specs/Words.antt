@@ -1,8 +1,7 @@
--- The sum of the words at five places of a line.
+-- The sum of five of a line's fifteen pricing quantities.
 use Prim.Native.Nat.{ℕ, _+_}
 use mathlib.Core.List.{List}
-use Rattle.rules.specs.Layout.{word}
+use Rattle.rules.specs.Layout.{field}
 
--- the sum of the words at five places
-abbrev pub fiveWords : List ℕ → ℕ → ℕ → ℕ → ℕ → ℕ → ℕ
-fiveWords w a b c d e = word w a + word w b + word w c + word w d + word w e
+unfoldable pub fiveWords : List ℕ → ℕ → ℕ → ℕ → ℕ → ℕ → ℕ
+fiveWords w a b c d e = field w (120 + a) + field w (120 + b) + field w (120 + c) + field w (120 + d) + field w (120 + e)

@@ -1,45 +1,40 @@
 // A line's rows: pricing totals, the operating table, actuals.
+use layout::fields::actual_entry;
+use layout::fields::operating_entry;
+use layout::fields::pricing_word;
 use numbers::wide;
 ghost use mathlib.Core.Path.{_≡_};
 ghost use Prim.Native.Nat.{_<_};
 ghost use lib.ListN.{length};
 ghost use Rattle.rules.specs.Fold.{five};
-ghost use Rattle.rules.specs.Layout.{operatingEntry, operatingRow, operatingTable, actualEntry};
+ghost use Rattle.rules.specs.Layout.{operatingRow, operatingTable, actualEntry};
 ghost use Rattle.rules.specs.Quantities.{pricingTotal};
 ghost use Rattle.line_quantities.specs.Words.{fiveWords};
 
-// The sum of the words at five places.
+// The sum of five of the fifteen pricing quantities.
 fn five_words(line: &[u8], a: usize, b: usize, c: usize, d: usize, e: usize) -> u64
-    requires { ⌜ (length (now line) ≡ 660) × (a < 657) × (b < 657) × (c < 657) × (d < 657) × (e < 657) ⌝ }
+    requires { ⌜ (length (now line) ≡ 660) × (a < 15) × (b < 15) × (c < 15) × (d < 15) × (e < 15) ⌝ }
     ensures { λ r. ⌜ r ≡ fiveWords (now (line .entry)) a b c d e ⌝ }
 {
-    wide(bytes_le::word_at(line, a))
-        + wide(bytes_le::word_at(line, b))
-        + wide(bytes_le::word_at(line, c))
-        + wide(bytes_le::word_at(line, d))
-        + wide(bytes_le::word_at(line, e))
+    wide(pricing_word(line, a))
+        + wide(pricing_word(line, b))
+        + wide(pricing_word(line, c))
+        + wide(pricing_word(line, d))
+        + wide(pricing_word(line, e))
 }
 
-// The pricing totals: schedule s reads interval i in row min(s, i). The rows begin at bytes 480, 500, 516, 528 and 536.
+// The pricing totals: schedule s reads interval i in row min(s, i). The rows begin at the places 0, 5, 9, 12 and 14 of the fifteen.
 pub fn pricing_totals(line: &[u8]) -> [u64; 5]
     requires { ⌜ length (now line) ≡ 660 ⌝ }
     ensures { λ r. ⌜ r ≡ five (pricingTotal (now (line .entry))) ⌝ }
 {
     [
-        five_words(line, 480, 484, 488, 492, 496),
-        five_words(line, 480, 500, 504, 508, 512),
-        five_words(line, 480, 500, 516, 520, 524),
-        five_words(line, 480, 500, 516, 528, 532),
-        five_words(line, 480, 500, 516, 528, 536),
+        five_words(line, 0, 1, 2, 3, 4),
+        five_words(line, 0, 5, 6, 7, 8),
+        five_words(line, 0, 5, 9, 10, 11),
+        five_words(line, 0, 5, 9, 12, 13),
+        five_words(line, 0, 5, 9, 12, 14),
     ]
-}
-
-// One entry of the operating table.
-fn operating_entry(line: &[u8], s: usize, i: usize) -> u32
-    requires { ⌜ (length (now line) ≡ 660) × (s < 5) × (i < 5) ⌝ }
-    ensures { λ r. ⌜ r ≡ operatingEntry (now (line .entry)) s i ⌝ }
-{
-    bytes_le::word_at(line, 4 * (135 + (5 * s + i)))
 }
 
 // One row of the operating table.
@@ -76,10 +71,10 @@ pub fn actuals(line: &[u8]) -> [u32; 5]
     ensures { λ r. ⌜ r ≡ five (actualEntry (now (line .entry))) ⌝ }
 {
     [
-        bytes_le::word_at(line, 640),
-        bytes_le::word_at(line, 644),
-        bytes_le::word_at(line, 648),
-        bytes_le::word_at(line, 652),
-        bytes_le::word_at(line, 656),
+        actual_entry(line, 0),
+        actual_entry(line, 1),
+        actual_entry(line, 2),
+        actual_entry(line, 3),
+        actual_entry(line, 4),
     ]
 }

@@ -3,7 +3,8 @@ use numbers::lesser;
 use numbers::wide;
 ghost use mathlib.Core.Path.{_≡_};
 ghost use Rattle.rules.specs.Fold.{five};
-ghost use Rattle.line_quantities.specs.Sums.{tableTotal, rowSum, lesserSum};
+ghost use Rattle.rules.specs.Quantities.{tableTotal};
+ghost use Rattle.line_quantities.specs.Sums.{rowSum, lesserSum};
 
 // The sum of a row.
 pub fn row_sum(row: [u32; 5]) -> u64

@@ -6,10 +6,11 @@ use lib.ListN.{length, drop}
 use lib.Dec.{eqb}
 use lib.IntN.{ℤ, pos, negsuc}
 use Rattle.rules.specs.Fold.{joined}
-use Rattle.rules.specs.Layout.{lineCount, lineAt, participant, point, side}
-use Rattle.rules.specs.Steps.{stepCount}
+use Rattle.rules.specs.Layout.{lineCount}
 use Rattle.rules.specs.Refusals.{bookLength, settleFault}
+use Rattle.rules.specs.Payments.{Day}
 use Rattle.rules.specs.Totals.{linePayment, total, adjustedTotal}
+use Rattle.rules.specs.Days.{settledDay}
 
 -- "All are little-endian": the k low bytes of v
 unfoldable pub le : ℕ → ℕ → List ℕ
@@ -28,26 +29,25 @@ abbrev pub signedBytes : ℤ → List ℕ
 signedBytes z = le 8 (bits64 z)
 
 -- "Book: words n, 16, 96, 96 + 56n"
-unfoldable pub bookHeader : List ℕ → List ℕ
-bookHeader d = wordBytes (lineCount d) ++ wordBytes 16 ++ wordBytes 96 ++ wordBytes (bookLength (lineCount d))
+unfoldable pub bookHeader : Day → List ℕ
+bookHeader y = wordBytes (y .lines) ++ wordBytes 16 ++ wordBytes 96 ++ wordBytes (bookLength (y .lines))
 
 -- "five pairs t, a as signed 64-bit"
-unfoldable pub totalPair : List ℕ → ℕ → List ℕ
-totalPair d s = signedBytes (total d s) ++ signedBytes (adjustedTotal d s)
+unfoldable pub totalPair : Day → ℕ → List ℕ
+totalPair y s = signedBytes (total y s) ++ signedBytes (adjustedTotal y s)
 
 -- "per line participant, point, side, step count and five signed 64-bit payments"
-unfoldable pub paymentBytes : List ℕ → ℕ → ℕ → List ℕ
-paymentBytes d k s = signedBytes (linePayment d s k)
+unfoldable pub paymentBytes : Day → ℕ → ℕ → List ℕ
+paymentBytes y k s = signedBytes (linePayment y s k)
 
-unfoldable pub lineEntry : List ℕ → ℕ → List ℕ
-lineEntry d k =
-    wordBytes (participant (lineAt d k)) ++ wordBytes (point (lineAt d k)) ++ wordBytes (side (lineAt d k))
-    ++ wordBytes (stepCount (lineAt d k))
-    ++ joined 5 (paymentBytes d k)
+unfoldable pub lineEntry : Day → ℕ → List ℕ
+lineEntry y k =
+    wordBytes (y .participant k) ++ wordBytes (y .point k) ++ wordBytes (y .side k) ++ wordBytes (y .count k)
+    ++ joined 5 (paymentBytes y k)
 
-unfoldable pub bookOf : List ℕ → List ℕ
-bookOf d = bookHeader d ++ joined 5 (totalPair d) ++ joined (lineCount d) (lineEntry d)
+unfoldable pub bookOf : Day → List ℕ
+bookOf y = bookHeader y ++ joined 5 (totalPair y) ++ joined (y .lines) (lineEntry y)
 
 -- the lent book b as settling leaves it: "Bytes beyond are unchanged", "Refused settling writes nothing"
 unfoldable pub bookAfter : List ℕ → List ℕ → List ℕ
-bookAfter d b = cond (eqb (settleFault d (length b)) 0) (bookOf d ++ drop (bookLength (lineCount d)) b) b
+bookAfter d b = cond (eqb (settleFault d (length b)) 0) (bookOf (settledDay d) ++ drop (bookLength (lineCount d)) b) b

@@ -1,4 +1,4 @@
--- Document 01, "Payments" (FD 8.4, 8.5): the figures of one step, then those of a day's steps.
+-- Document 01, "Payments" (FD 8.4, 8.5): the figures of one step, then those of a day as its steps.
 use Prim.Native.Nat.{ℕ, _*_, _-_, min, max}
 use mathlib.Core.List.{List}
 use mathlib.Core.Bool.{Bool, not, cond, _&&_, _||_}
@@ -6,9 +6,8 @@ use lib.Dec.{eqb}
 use lib.IntN.{ℤ, pos, negℤ, subℕ, _-ℤ_, _*ℤ_}
 use lib.Signed.{ltZ, leZ, nonNeg, quotZ}
 use Rattle.rules.specs.Fold.{sumTo, sumZ, someTo, eqbZ, five, at}
-use Rattle.rules.specs.Layout.{lineCount, marketPrice, clawback, lineAt, side, withdrawal}
-use Rattle.rules.specs.Steps.{stepCount, upperEnd, lowerEnd, price, flag, capped, paid}
-use Rattle.rules.specs.Quantities.{pricingTotal, operatingTotal, effectiveActual, allocated, agino, msiq, constrained}
+use Rattle.rules.specs.Layout.{withdrawal}
+use Rattle.rules.specs.Quantities.{allocated, agino, msiq, constrained}
 use Rattle.rules.specs.declared.Step.{Step}
 use Rattle.rules.specs.Matching.{earlier, rise, fall, matched}
 
@@ -50,6 +49,10 @@ rate x s = excess (x .side) (at (x .price) s) (at (x .market) s)
 -- "max(0, lesser of the prices in r and s, less market price of s). Withdrawals: market price less the greater"
 unfoldable pub revisedRate : Step → ℕ → ℕ → ℕ
 revisedRate x s r = excess (x .side) (milder (x .side) (at (x .price) r) (at (x .price) s)) (at (x .market) s)
+
+-- 1 for a test that holds
+abbrev pub bit : Bool → ℕ
+bit b = cond b 1 0
 
 unfoldable pub isPaid : Step → ℕ → Bool
 isPaid x s = eqb (at (x .paid) s) 1
@@ -105,79 +108,60 @@ finalPayment x claw s p =
     (modified x s)
     (cond (isPooled x s p) (maxZ (initial x s) (pooledPayment x s p)) (revised x s)))
 
--- 1 for a test that holds
-abbrev pub bit : Bool → ℕ
-bit b = cond b 1 0
-
--- step j of line k of the day d
-unfoldable pub stepPrice : List ℕ → ℕ → ℕ → ℕ → ℕ
-stepPrice d k j s = capped d s (price (lineAt d k) s (upperEnd (lineAt d k) j))
-
-unfoldable pub stepFlag : List ℕ → ℕ → ℕ → ℕ → ℕ
-stepFlag d k j s = flag (lineAt d k) s (upperEnd (lineAt d k) j)
-
-unfoldable pub stepPaid : List ℕ → ℕ → ℕ → ℕ → ℕ
-stepPaid d k j s = bit (paid (lineAt d k) (upperEnd (lineAt d k) j) s)
-
-unfoldable pub stepOf : List ℕ → ℕ → ℕ → Step
-stepOf d k j =
-    record {
-      side = side (lineAt d k);
-      lower = lowerEnd (lineAt d k) j;
-      upper = upperEnd (lineAt d k) j;
-      price = five (stepPrice d k j);
-      flag = five (stepFlag d k j);
-      market = five (marketPrice d);
-      paid = five (stepPaid d k j);
-      pricing = five (pricingTotal (lineAt d k));
-      operating = five (operatingTotal (lineAt d k));
-      actual = effectiveActual (lineAt d k);
-    }
+-- A day as its steps: how many lines it has; of line k participant, point, side and how many steps; its step j; the clawback switch.
+pub record Day : Type 0 where
+  pub lines : ℕ
+  pub participant : ℕ → ℕ
+  pub point : ℕ → ℕ
+  pub side : ℕ → ℕ
+  pub count : ℕ → ℕ
+  pub step : ℕ → ℕ → Step
+  pub clawback : ℕ
 
 -- "T be the sum of revised over all steps of that side in s": of one step, one line, all lines
-unfoldable pub stepRevised : List ℕ → ℕ → ℕ → ℕ → ℤ
-stepRevised d s k j = revised (stepOf d k j) s
+unfoldable pub stepRevised : Day → ℕ → ℕ → ℕ → ℤ
+stepRevised y s k j = revised (y .step k j) s
 
-unfoldable pub ofSide : List ℕ → ℕ → ℕ → Bool
-ofSide d sd k = eqb (side (lineAt d k)) sd
+unfoldable pub ofSide : Day → ℕ → ℕ → Bool
+ofSide y sd k = eqb (y .side k) sd
 
-unfoldable pub lineRevised : List ℕ → ℕ → ℕ → ℕ → ℤ
-lineRevised d sd s k = cond (ofSide d sd k) (sumZ (stepCount (lineAt d k)) (stepRevised d s k)) (pos 0)
+unfoldable pub lineRevised : Day → ℕ → ℕ → ℕ → ℤ
+lineRevised y sd s k = cond (ofSide y sd k) (sumZ (y .count k) (stepRevised y s k)) (pos 0)
 
-unfoldable pub poolTotal : List ℕ → ℕ → ℕ → ℤ
-poolTotal d sd s = sumZ (lineCount d) (lineRevised d sd s)
+unfoldable pub poolTotal : Day → ℕ → ℕ → ℤ
+poolTotal y sd s = sumZ (y .lines) (lineRevised y sd s)
 
 -- "B the greater of two sums over that side's paid steps in s, of the rises U(s) and of the falls D(s)"
-unfoldable pub paidChange : (List ℕ → ℕ → ℕ) → List ℕ → ℕ → ℕ → ℕ → ℕ
-paidChange change d s k j = cond (isPaid (stepOf d k j) s) (change (onStep (stepOf d k j)) s) 0
+unfoldable pub paidChange : (List ℕ → ℕ → ℕ) → Day → ℕ → ℕ → ℕ → ℕ
+paidChange change y s k j = cond (isPaid (y .step k j) s) (change (onStep (y .step k j)) s) 0
 
-unfoldable pub lineChange : (List ℕ → ℕ → ℕ) → List ℕ → ℕ → ℕ → ℕ → ℕ
-lineChange change d sd s k = cond (ofSide d sd k) (sumTo (stepCount (lineAt d k)) (paidChange change d s k)) 0
+unfoldable pub lineChange : (List ℕ → ℕ → ℕ) → Day → ℕ → ℕ → ℕ → ℕ
+lineChange change y sd s k = cond (ofSide y sd k) (sumTo (y .count k) (paidChange change y s k)) 0
 
-unfoldable pub poolChange : (List ℕ → ℕ → ℕ) → List ℕ → ℕ → ℕ → ℕ
-poolChange change d sd s = sumTo (lineCount d) (lineChange change d sd s)
+unfoldable pub poolChange : (List ℕ → ℕ → ℕ) → Day → ℕ → ℕ → ℕ
+poolChange change y sd s = sumTo (y .lines) (lineChange change y sd s)
 
-unfoldable pub poolBase : List ℕ → ℕ → ℕ → ℕ
-poolBase d sd s = max (poolChange rise d sd s) (poolChange fall d sd s)
+unfoldable pub poolBase : Day → ℕ → ℕ → ℕ
+poolBase y sd s = max (poolChange rise y sd s) (poolChange fall y sd s)
 
 -- "some revised on that side in s differs from its initial"
-unfoldable pub stepDiffers : List ℕ → ℕ → ℕ → ℕ → Bool
-stepDiffers d s k j = not (eqbZ (revised (stepOf d k j) s) (initial (stepOf d k j) s))
+unfoldable pub stepDiffers : Day → ℕ → ℕ → ℕ → Bool
+stepDiffers y s k j = not (eqbZ (revised (y .step k j) s) (initial (y .step k j) s))
 
-unfoldable pub lineDiffers : List ℕ → ℕ → ℕ → ℕ → Bool
-lineDiffers d sd s k = ofSide d sd k && someTo (stepCount (lineAt d k)) (stepDiffers d s k)
+unfoldable pub lineDiffers : Day → ℕ → ℕ → ℕ → Bool
+lineDiffers y sd s k = ofSide y sd k && someTo (y .count k) (stepDiffers y s k)
 
-unfoldable pub poolDiffers : List ℕ → ℕ → ℕ → Bool
-poolDiffers d sd s = someTo (lineCount d) (lineDiffers d sd s)
+unfoldable pub poolDiffers : Day → ℕ → ℕ → Bool
+poolDiffers y sd s = someTo (y .lines) (lineDiffers y sd s)
 
-unfoldable pub poolOf : List ℕ → ℕ → ℕ → Pool
-poolOf d sd s =
+unfoldable pub poolOf : Day → ℕ → ℕ → Pool
+poolOf y sd s =
     record {
-      total = poolTotal d sd s;
-      base = poolBase d sd s;
-      differs = poolDiffers d sd s;
+      total = poolTotal y sd s;
+      base = poolBase y sd s;
+      differs = poolDiffers y sd s;
     }
 
 -- the final payment of step j of line k in s
-unfoldable pub stepFinal : List ℕ → ℕ → ℕ → ℕ → ℤ
-stepFinal d s k j = finalPayment (stepOf d k j) (clawback d) s (poolOf d (side (lineAt d k)) s)
+unfoldable pub stepFinal : Day → ℕ → ℕ → ℕ → ℤ
+stepFinal y s k j = finalPayment (y .step k j) (y .clawback) s (poolOf y (y .side k) s)

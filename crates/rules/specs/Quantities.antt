@@ -1,10 +1,11 @@
 -- Document 01, "Quantities" (FD 5 to 7).
 use Prim.Native.Nat.{ℕ, zero, suc, _-_, min}
-use mathlib.Core.List.{List}
+use mathlib.Core.List.{List, []}
 use mathlib.Core.Bool.{Bool, cond}
+use lib.ListN.{getD}
 use lib.Dec.{ltb}
 use Rattle.rules.specs.Fold.{sumTo, at}
-use Rattle.rules.specs.Layout.{pricingEntry, operatingEntry, actualEntry, withdrawal}
+use Rattle.rules.specs.Layout.{pricingEntry, operatingTable, actualEntry, withdrawal}
 
 -- "Pricing total of s: the sum over intervals i of the entry for i in row min(s, i)" (FD 5.1.1)
 unfoldable pub pricingIn : List ℕ → ℕ → ℕ → ℕ
@@ -13,16 +14,23 @@ pricingIn w s i = pricingEntry w (min s i) i
 unfoldable pub pricingTotal : List ℕ → ℕ → ℕ
 pricingTotal w s = sumTo 5 (pricingIn w s)
 
--- "Operating total: the sum of the whole operating row s" (FD 5.2.1)
-unfoldable pub operatingTotal : List ℕ → ℕ → ℕ
-operatingTotal w s = sumTo 5 (operatingEntry w s)
+-- "Operating total: the sum of the whole operating row s" (FD 5.2.1), of a table of operating quantities
+unfoldable pub tableTotal : List (List ℕ) → ℕ → ℕ
+tableTotal t s = sumTo 5 (at (getD t s []))
 
--- "Effective actual: the sum over intervals of the lesser of operating row 5 and the actual" (FD 6.1.1, 6.2.1)
-unfoldable pub actualIn : List ℕ → ℕ → ℕ
-actualIn w i = min (operatingEntry w 4 i) (actualEntry w i)
+-- "Effective actual: the sum over intervals of the lesser of operating row 5 and the actual" (FD 6.1.1, 6.2.1), with that table
+unfoldable pub actualIn : List (List ℕ) → List ℕ → ℕ → ℕ
+actualIn t w i = min (at (getD t 4 []) i) (actualEntry w i)
 
-unfoldable pub effectiveActual : List ℕ → ℕ
-effectiveActual w = sumTo 5 (actualIn w)
+unfoldable pub tableActual : List (List ℕ) → List ℕ → ℕ
+tableActual t w = sumTo 5 (actualIn t w)
+
+-- the same with a line's own table
+abbrev pub operatingTotal : List ℕ → ℕ → ℕ
+operatingTotal w s = tableTotal (operatingTable w) s
+
+abbrev pub effectiveActual : List ℕ → ℕ
+effectiveActual w = tableActual (operatingTable w) w
 
 -- "Allocating Q to a step from l to u gives max(0, min(Q, u) - l), on both sides of the market" (FD 5.1.2, 5.2.2, 6.1.2);
 -- a difference of natural numbers is 0 where it would be below 0

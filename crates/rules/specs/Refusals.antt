@@ -7,9 +7,9 @@ use lib.Dec.{eqb, ltb, leb}
 use Rattle.rules.specs.Fold.{refuse, _orElse_, first, before}
 use Rattle.rules.specs.Layout.{quantityMost, priceMost, lineCount, marketOffset, linesOffset, lengthWord, mostLines, marketAt, linesAt, lineBytes, fileLength}
 use Rattle.rules.specs.Layout.{marketPrice, capMark, priceCap, clawback, lineAt, participant, point, side, accreditation, hedge, withdrawal}
-use Rattle.rules.specs.Layout.{bidSlots, bidCount, bidBreak, bidPrice, actualEntry}
+use Rattle.rules.specs.Layout.{bidSlots, bidCount, bidBreak, bidPrice, operatingTable, actualEntry}
 use Rattle.rules.specs.Steps.{greatestBreak, stepCount}
-use Rattle.rules.specs.Quantities.{pricingTotal, operatingTotal}
+use Rattle.rules.specs.Quantities.{pricingTotal, tableTotal}
 
 -- header: "1: under 64 bytes", "2: n is 0 or above 64", "3: offsets, length word or real length differ from those above"
 unfoldable pub headerFault : List ℕ → ℕ
@@ -72,26 +72,30 @@ bidFault w s =
     orElse first (priceFault w s) (bidCount w s)
     orElse first (unusedFault w s) (bidSlots - bidCount w s)
 
--- each line: "12: a pricing or operating total above M"
-unfoldable pub totalFault : List ℕ → ℕ → ℕ
-totalFault w s =
+-- each line: "12: a pricing or operating total above M", with a table of operating quantities
+unfoldable pub totalFault : List (List ℕ) → List ℕ → ℕ → ℕ
+totalFault t w s =
     refuse 12 (ltb (greatestBreak w) (pricingTotal w s))
-    orElse refuse 12 (ltb (greatestBreak w) (operatingTotal w s))
+    orElse refuse 12 (ltb (greatestBreak w) (tableTotal t s))
 
 -- each line: "13: an actual above the quantity limit"
 unfoldable pub actualFault : List ℕ → ℕ → ℕ
 actualFault w i = refuse 13 (ltb quantityMost (actualEntry w i))
 
 -- each line: "6: side or accreditation above 1", the bids, "11: hedge above M, or not 0 on a withdrawal", 12, 13
-unfoldable pub lineFault : List ℕ → ℕ
-lineFault w =
+unfoldable pub lineFaultWith : List (List ℕ) → List ℕ → ℕ
+lineFaultWith t w =
     refuse 6 (ltb 1 (side w))
     orElse refuse 6 (ltb 1 (accreditation w))
     orElse first (bidFault w) 5
     orElse refuse 11 (ltb (greatestBreak w) (hedge w))
     orElse refuse 11 (withdrawal (side w) && not (eqb (hedge w) 0))
-    orElse first (totalFault w) 5
+    orElse first (totalFault t w) 5
     orElse first (actualFault w) 5
+
+-- with the line's own table
+unfoldable pub lineFault : List ℕ → ℕ
+lineFault w = lineFaultWith (operatingTable w) w
 
 -- "lines one after another"
 unfoldable pub lineFaultAt : List ℕ → ℕ → ℕ

@@ -5,10 +5,11 @@ use mathlib.Core.Bool.{cond}
 use lib.Dec.{eqb, ltb}
 use lib.IntN.{ℤ, pos, negsuc}
 use Rattle.rules.specs.Fold.{joined}
-use Rattle.rules.specs.Layout.{lineCount, lineAt, participant, point, side, withdrawal}
-use Rattle.rules.specs.Steps.{stepCount}
+use Rattle.rules.specs.Layout.{withdrawal}
 use Rattle.rules.specs.Refusals.{dayFault}
+use Rattle.rules.specs.Payments.{Day}
 use Rattle.rules.specs.Totals.{linePayment, total, adjustedTotal}
+use Rattle.rules.specs.Days.{settledDay}
 
 -- a number in decimal, of at most so many digits
 unfoldable pub digits : ℕ → ℕ → List ℕ
@@ -62,26 +63,25 @@ unfoldable pub fiveNumbers : (ℕ → ℤ) → List ℕ
 fiveNumbers f = joined 5 (numberAfter f) ++ lineFeed
 
 -- "participant, point, INJ or WDR, steps, five payments": of line k
-unfoldable pub paymentOf : List ℕ → ℕ → ℕ → ℤ
-paymentOf d k s = linePayment d s k
+unfoldable pub paymentOf : Day → ℕ → ℕ → ℤ
+paymentOf y k s = linePayment y s k
 
-unfoldable pub lineText : List ℕ → ℕ → List ℕ
-lineText d k =
-    decimal (participant (lineAt d k)) ++ space ++ decimal (point (lineAt d k)) ++ space
-    ++ sideText (side (lineAt d k)) ++ space ++ decimal (stepCount (lineAt d k))
-    ++ fiveNumbers (paymentOf d k)
+unfoldable pub lineText : Day → ℕ → List ℕ
+lineText y k =
+    decimal (y .participant k) ++ space ++ decimal (y .point k) ++ space ++ sideText (y .side k) ++ space ++ decimal (y .count k)
+    ++ fiveNumbers (paymentOf y k)
 
 -- "line count; participant, point, INJ or WDR, steps, five payments; t; a"
-unfoldable pub settledText : List ℕ → List ℕ
-settledText d =
-    dayText ++ decimal (lineCount d) ++ lineFeed
-    ++ joined (lineCount d) (lineText d)
-    ++ totalText ++ fiveNumbers (total d)
-    ++ adjustedText ++ fiveNumbers (adjustedTotal d)
+unfoldable pub settledText : Day → List ℕ
+settledText y =
+    dayText ++ decimal (y .lines) ++ lineFeed
+    ++ joined (y .lines) (lineText y)
+    ++ totalText ++ fiveNumbers (total y)
+    ++ adjustedText ++ fiveNumbers (adjustedTotal y)
 
 -- "A refusal prints `refused` and its number"
 unfoldable pub refusedLine : ℕ → List ℕ
 refusedLine n = refusedText ++ decimal n ++ lineFeed
 
 unfoldable pub reportText : List ℕ → List ℕ
-reportText d = cond (eqb (dayFault d) 0) (settledText d) (refusedLine (dayFault d))
+reportText d = cond (eqb (dayFault d) 0) (settledText (settledDay d)) (refusedLine (dayFault d))

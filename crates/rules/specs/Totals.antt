@@ -6,17 +6,15 @@ use lib.Dec.{eqb}
 use lib.IntN.{ℤ, pos, _+ℤ_, _-ℤ_}
 use lib.Signed.{leZ, nonNeg}
 use Rattle.rules.specs.Fold.{sumZ, five, atZ}
-use Rattle.rules.specs.Layout.{lineCount, lineAt}
-use Rattle.rules.specs.Steps.{stepCount}
-use Rattle.rules.specs.Payments.{stepFinal, maxZ}
+use Rattle.rules.specs.Payments.{Day, stepFinal, maxZ}
 
 -- "five signed 64-bit payments, each the sum of its steps' finals in that schedule": of line k in s
-unfoldable pub linePayment : List ℕ → ℕ → ℕ → ℤ
-linePayment d s k = sumZ (stepCount (lineAt d k)) (stepFinal d s k)
+unfoldable pub linePayment : Day → ℕ → ℕ → ℤ
+linePayment y s k = sumZ (y .count k) (stepFinal y s k)
 
 -- "Total t(s) sums all finals"
-unfoldable pub total : List ℕ → ℕ → ℤ
-total d s = sumZ (lineCount d) (linePayment d s)
+unfoldable pub total : Day → ℕ → ℤ
+total y s = sumZ (y .lines) (linePayment y s)
 
 abbrev pub minZ : ℤ → ℤ → ℤ
 minZ a b = cond (leZ a b) a b
@@ -42,9 +40,9 @@ carried t (suc s) = carried t s +ℤ (atZ t s -ℤ adjustedAfter t (carried t s)
 unfoldable pub adjusted : List ℤ → ℕ → ℤ
 adjusted t s = adjustedAfter t (carried t s) s
 
--- a(s) of the day d
-unfoldable pub totals : List ℕ → List ℤ
-totals d = five (total d)
+-- a(s) of a day
+unfoldable pub totals : Day → List ℤ
+totals y = five (total y)
 
-unfoldable pub adjustedTotal : List ℕ → ℕ → ℤ
-adjustedTotal d s = adjusted (totals d) s
+unfoldable pub adjustedTotal : Day → ℕ → ℤ
+adjustedTotal y s = adjusted (totals y) s

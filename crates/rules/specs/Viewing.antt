@@ -10,12 +10,13 @@ use Rattle.rules.specs.Layout.{lineAt}
 use Rattle.rules.specs.Steps.{upperEnd, width}
 use Rattle.rules.specs.Refusals.{viewFault}
 use Rattle.rules.specs.Matching.{tenMatches}
-use Rattle.rules.specs.Payments.{stepOf, stepPrice, stepFlag, operatingOn, pricingOn, actualOn, aginoOn, msiqOn, onStep, initial, revised, modified, stepFinal}
+use Rattle.rules.specs.Payments.{operatingOn, pricingOn, actualOn, aginoOn, msiqOn, onStep, initial, revised, modified, Day, stepFinal}
+use Rattle.rules.specs.Days.{stepPrice, stepFlag, stepOf, settledDay}
 use Rattle.rules.specs.declared.View.{View}
 
 -- the final payments of step j of line k, by schedule
-unfoldable pub finalIn : List ℕ → ℕ → ℕ → ℕ → ℤ
-finalIn d k j s = stepFinal d s k j
+unfoldable pub finalIn : Day → ℕ → ℕ → ℕ → ℤ
+finalIn y k j s = stepFinal y s k j
 
 -- "For all schedules it answers upper end, width, price, flag, O, E, A, AGINO, MSIQ, C, the ten matches and the four kinds of payment"
 unfoldable pub viewOf : List ℕ → ℕ → ℕ → View
@@ -36,7 +37,7 @@ viewOf d k j =
       initial = five (initial (stepOf d k j));
       revised = five (revised (stepOf d k j));
       modified = five (modified (stepOf d k j));
-      finals = five (finalIn d k j);
+      finals = five (finalIn (settledDay d) k j);
     }
 
 -- "A refused cutter or view answers the number and zeros"

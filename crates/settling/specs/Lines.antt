@@ -10,6 +10,8 @@ use borrow.Author.Tests.{lt-ltb, le-ltb}
 use Rattle.rules.specs.Fold.{refuse, _orElse_}
 use Rattle.rules.specs.Layout.{lineCount, lineAt, side}
 use Rattle.rules.specs.Refusals.{dayFault, settleFault, bookLength}
+use Rattle.rules.specs.Payments.{Day}
+use Rattle.rules.specs.Days.{settledDay}
 use Rattle.rules.specs.Book.{bookOf, bookAfter}
 use Rattle.laws.specs.Accepted.{AcceptedDay, accepted-line-at}
 use Rattle.step_pool.specs.declared.pool_amounts.SidePool.{SidePool}
@@ -24,22 +26,23 @@ poolIn sd i w = cond (eqb sd 0) i w
 pub record Payer (d : List ℕ) (m : Market) (i w : SidePool) : Type 0 where
   pub accepted : AcceptedDay d
   pub market : m ≡ marketOf d
-  pub injection : PoolFor d 0 i
-  pub withdrawal : PoolFor d 1 w
+  pub injection : PoolFor (settledDay d) 0 i
+  pub withdrawal : PoolFor (settledDay d) 1 w
 
-pool-by : (d : List ℕ) (sd : ℕ) (i w : SidePool) → sd ≤ 1 → PoolFor d 0 i → PoolFor d 1 w → PoolFor d sd (poolIn sd i w)
+pool-by : (y : Day) (sd : ℕ) (i w : SidePool) → sd ≤ 1 → PoolFor y 0 i → PoolFor y 1 w → PoolFor y sd (poolIn sd i w)
 unfolding poolIn
-pool-by d zero i w h p q = p
-pool-by d (suc zero) i w h p q = q
-pool-by d (suc (suc n)) i w h p q = absurd (omega arith)
+pool-by y zero i w h p q = p
+pool-by y (suc zero) i w h p q = q
+pool-by y (suc (suc n)) i w h p q = absurd (omega arith)
 
 -- the pool that line k's payments read
-pub line-pool : (d : List ℕ) (m : Market) (i w : SidePool) → Payer d m i w → (k : ℕ) → k < lineCount d → (v : List ℕ) → v ≡ lineAt d k → (sd : ℕ) → sd ≡ side v → (q : SidePool) → q ≡ poolIn sd i w → PoolFor d (side (lineAt d k)) q
+pub line-pool : (d : List ℕ) (m : Market) (i w : SidePool) → Payer d m i w → (k : ℕ) → k < lineCount d → (v : List ℕ) → v ≡ lineAt d k
+    → (sd : ℕ) → sd ≡ side v → (q : SidePool) → q ≡ poolIn sd i w → PoolFor (settledDay d) (side (lineAt d k)) q
 line-pool d m i w p k l v e sd h q g =
     let n : sd ≡ side (lineAt d k) = h ∙ ap side e in
     let s : q ≡ poolIn (side (lineAt d k)) i w = g ∙ ap (λ (x : ℕ). poolIn x i w) n in
-    subst (PoolFor d (side (lineAt d k))) (sym s)
-    (pool-by d (side (lineAt d k)) i w (accepted-line-at d (p .accepted) k l .side-most) (p .injection) (p .withdrawal))
+    subst (PoolFor (settledDay d) (side (lineAt d k))) (sym s)
+    (pool-by (settledDay d) (side (lineAt d k)) i w (accepted-line-at d (p .accepted) k l .side-most) (p .injection) (p .withdrawal))
 
 -- how settling ends: the day refused, the book too short, or the book put
 pub day-refused : (d b : List ℕ) (r : ℕ) → r ≡ dayFault d → (r ≡ 0 → ⊥) → (r ≡ settleFault d (length b)) × (b ≡ bookAfter d b)
@@ -51,6 +54,6 @@ pub book-short : (d b : List ℕ) (r : ℕ) → r ≡ dayFault d → r ≡ 0 →
 unfolding settleFault bookAfter refuse _orElse_
 book-short d b r e z h = rw (sym e ∙ z, lt-ltb (length b) (bookLength (lineCount d)) h) (refl, refl)
 
-pub book-put : (d b c : List ℕ) (r n : ℕ) → n ≡ dayFault d → n ≡ 0 → bookLength (lineCount d) ≤ length b → r ≡ 0 → c ≡ bookOf d ++ drop (bookLength (lineCount d)) b → (r ≡ settleFault d (length b)) × (c ≡ bookAfter d b)
+pub book-put : (d b c : List ℕ) (r n : ℕ) → n ≡ dayFault d → n ≡ 0 → bookLength (lineCount d) ≤ length b → r ≡ 0 → c ≡ bookOf (settledDay d) ++ drop (bookLength (lineCount d)) b → (r ≡ settleFault d (length b)) × (c ≡ bookAfter d b)
 unfolding settleFault bookAfter refuse _orElse_
 book-put d b c r n e z h re ce = rw (sym e ∙ z, le-ltb (length b) (bookLength (lineCount d)) h) (re, ce)

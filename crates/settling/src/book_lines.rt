@@ -1,110 +1,73 @@
-// A day's book put into lent bytes: each line's payments, then totals and adjusted totals.
+// A day's book put into lent bytes, from what its lines are paid and its totals.
+use crate::paid::UNPAID;
+use crate::paid::day_paid;
+use book::entry_at;
 use book::put_entry;
 use book::put_front;
-use bytes_le::word_at;
-use day::header::line_count;
-use day::header::line_of;
-use day_pools::line_paid;
-use day_pools::pool_for;
-use step_finals::finals::money_add;
-use step_inputs::inputs::Market;
-use step_inputs::inputs::market_of;
-use step_payments::amounts::Money;
-use step_payments::payments::signed_money;
-use step_pool::pool_amounts::SidePool;
+use layout::fields::participant;
+use layout::fields::point;
+use layout::fields::side;
+use layout::header::count_word;
+use layout::header::line_count;
+use layout::header::line_of;
 ghost use mathlib.Core.Path.{_≡_};
 ghost use Prim.Native.Nat.{_+_, _≤_, _<_};
 ghost use mathlib.Core.List.{_++_};
-ghost use lib.ListN.{length};
+ghost use lib.ListN.{length, drop};
 ghost use lib.Seq.{sets};
 ghost use Rattle.rules.specs.Fold.{joined};
 ghost use Rattle.rules.specs.Layout.{lineCount};
 ghost use Rattle.rules.specs.Refusals.{bookLength};
+ghost use Rattle.rules.specs.Days.{settledDay};
 ghost use Rattle.rules.specs.Book.{lineEntry, bookOf};
 ghost use Rattle.laws.specs.Accepted.{AcceptedDay};
-ghost use Rattle.day_pools.specs.Sums.{moneyTo};
-ghost use Rattle.settling.specs.Sums.{lineMoney};
-ghost use Rattle.settling.specs.Lines.{poolIn, Payer};
+ghost use Rattle.settling.specs.Paid.{PaidDay};
 
-// The pool of a line's side.
-fn pool_of(side: u32, injection: SidePool, withdrawal: SidePool) -> SidePool
-    ensures { λ r. ⌜ r ≡ poolIn side injection withdrawal ⌝ }
-{
-    if side == 0 {
-        return injection;
-    }
-    withdrawal
-}
-
-// Line k of the book, from byte `at` on, and what the line is paid.
-fn put_line(
-    day: &[u8],
-    k: usize,
-    m: Market,
-    injection: SidePool,
-    withdrawal: SidePool,
-    book: &mut [u8],
-    at: usize,
-) -> Money
-    requires { ⌜ (Payer (now day) m injection withdrawal) × (k < lineCount (now day)) × (at + 56 ≤ length (now book)) ⌝ }
-    ensures { λ r. ⌜ (now (book .exit) ≡ sets (now (book .entry)) at (lineEntry (now (day .entry)) k)) × (r ≡ lineMoney (now (day .entry)) k) ⌝ }
+// Line k of the book, from byte `at` on.
+fn put_line(day: &[u8], k: usize, paid: &[i64; 320], counts: &[u32; 64], book: &mut [u8], at: usize)
+    requires { ⌜ (AcceptedDay (now day)) × (PaidDay (settledDay (now day)) (now paid) (now counts)) × (k < lineCount (now day))
+        × (at + 56 ≤ length (now book)) ⌝ }
+    ensures { λ _. ⌜ now (book .exit) ≡ sets (now (book .entry)) at (lineEntry (settledDay (now (day .entry))) k) ⌝ }
 {
     let line = line_of(day, k);
-    let side = word_at(line, 8);
-    let paid = line_paid(day, k, m, pool_of(side, injection, withdrawal));
-    let money = paid.money;
-    let payments = signed_money(money);
+    let p = 5 * k;
+    let payments = [paid[p], paid[p + 1], paid[p + 2], paid[p + 3], paid[p + 4]];
     put_entry(
         book,
         at,
-        word_at(line, 0),
-        word_at(line, 4),
-        side,
-        paid.count,
+        participant(line),
+        point(line),
+        side(line),
+        counts[k],
         payments,
     );
-    money
 }
 
-// The lines of the book, and what they are paid in all. The loop maintains that the first k are put, and that `total` is what they are
-// paid.
-fn put_lines(
-    day: &[u8],
-    m: Market,
-    injection: SidePool,
-    withdrawal: SidePool,
-    book: &mut [u8],
-) -> Money
-    requires { ⌜ (Payer (now day) m injection withdrawal) × (bookLength (lineCount (now day)) ≤ length (now book)) ⌝ }
-    ensures { λ _. ⌜ now (book .exit) ≡ sets (now (book .entry)) 96 (joined (lineCount (now (day .entry))) (lineEntry (now (day .entry)))) ⌝ }
-    ensures { λ r. ⌜ r ≡ moneyTo (lineCount (now (day .entry))) (lineMoney (now (day .entry))) ⌝ }
+// The lines of the book. The loop maintains that the first k are put.
+fn put_lines(day: &[u8], paid: &[i64; 320], counts: &[u32; 64], book: &mut [u8])
+    requires { ⌜ (AcceptedDay (now day)) × (PaidDay (settledDay (now day)) (now paid) (now counts)) × (bookLength (lineCount (now day)) ≤ length (now book)) ⌝ }
+    ensures { λ _. ⌜ now (book .exit) ≡ sets (now (book .entry)) 96 (joined (lineCount (now (day .entry))) (lineEntry (settledDay (now (day .entry))))) ⌝ }
 {
     let n = line_count(day);
-    let mut total = Money {
-        plus: [0; 5],
-        minus: [0; 5],
-    };
     let mut k = 0;
     while k < n {
-        let money = put_line(day, k, m, injection, withdrawal, book, 96 + 56 * k);
-        total = money_add(total, money);
+        put_line(day, k, paid, counts, book, entry_at(k));
         k += 1;
     }
-    total
 }
 
 // The book of an accepted day.
 pub fn put_book(day: &[u8], book: &mut [u8]) -> u32
     requires { ⌜ (AcceptedDay (now day)) × (bookLength (lineCount (now day)) ≤ length (now book)) ⌝ }
     ensures { λ r. ⌜ r ≡ 0 ⌝ }
-    ensures { λ _. ⌜ now (book .exit) ≡ bookOf (now (day .entry)) ++ lib.ListN.drop (bookLength (lineCount (now (day .entry)))) (now (book .entry)) ⌝ }
+    ensures { λ _. ⌜ now (book .exit) ≡ bookOf (settledDay (now (day .entry))) ++ drop (bookLength (lineCount (now (day .entry)))) (now (book .entry)) ⌝ }
 {
-    let m = market_of(day);
-    let injection = pool_for(day, m, 0);
-    let withdrawal = pool_for(day, m, 1);
-    let total = put_lines(day, m, injection, withdrawal, book);
-    let t = signed_money(total);
-    let a = day_totals::adjusted(t);
-    put_front(book, word_at(day, 0), t, a);
+    let mut paid = [UNPAID; 320];
+    let mut counts = [0; 64];
+    let x = day_paid(day, &mut paid, &mut counts);
+    let t = x.t;
+    let a = x.a;
+    put_lines(day, &paid, &counts, book);
+    put_front(book, count_word(day), t, a);
     0
 }

@@ -1,9 +1,11 @@
 // Settling: a day's bytes to its book (document 01, "Totals and book").
 mod book_lines;
+pub mod paid;
 
 use crate::book_lines::put_book;
+use book::entry_at;
 use day::day_number;
-use day::header::line_count;
+use layout::header::line_count;
 ghost use mathlib.Core.Path.{_≡_};
 ghost use lib.ListN.{length};
 ghost use Rattle.rules.specs.Refusals.{settleFault};
@@ -18,7 +20,7 @@ pub fn settle(day: &[u8], book: &mut [u8]) -> u32
     if number != 0 {
         return number;
     }
-    if book.len() < 96 + 56 * line_count(day) {
+    if book.len() < entry_at(line_count(day)) {
         return 15;
     }
     put_book(day, book)

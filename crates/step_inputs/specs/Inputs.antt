@@ -1,17 +1,17 @@
 -- The market table and a line's totals as the code holds them, and a step put together from them.
-use Prim.Native.Nat.{ℕ, _+_, _*_}
+use Prim.Native.Nat.{ℕ, _<_}
+use mathlib.Core.Path.{_≡_}
 use mathlib.Core.List.{List}
 use Rattle.rules.specs.Fold.{five}
 use Rattle.rules.specs.Layout as layout
-use Rattle.rules.specs.Quantities.{pricingTotal, operatingTotal, effectiveActual}
+use Rattle.rules.specs.Quantities.{pricingTotal, tableTotal, tableActual}
+use Rattle.rules.specs.Steps.{stepCount, lowerEnd}
+use Rattle.rules.specs.Cutting.{cutOf}
 use Rattle.rules.specs.declared.Step.{Step}
+use Rattle.laws.specs.Accepted.{AcceptedLine}
 use Rattle.step_inputs.specs.declared.inputs.Market.{Market}
 use Rattle.step_inputs.specs.declared.inputs.LineTotals.{LineTotals}
 use Rattle.step_inputs.specs.Terms.{cappedIn, paidIn}
-
--- word s of those from byte i on
-unfoldable pub wordIn : List ℕ → ℕ → ℕ → ℕ
-wordIn d i s = layout.word d (i + 4 * s)
 
 unfoldable pub marketOf : List ℕ → Market
 marketOf d =
@@ -22,15 +22,16 @@ marketOf d =
       clawback = layout.clawback d;
     }
 
-unfoldable pub totalsOf : List ℕ → LineTotals
-totalsOf w =
+-- the totals of a line, with a table of operating quantities
+unfoldable pub totalsOf : List (List ℕ) → List ℕ → LineTotals
+totalsOf t w =
     record {
       side = layout.side w;
       accreditation = layout.accreditation w;
       hedge = layout.hedge w;
       pricing = five (pricingTotal w);
-      operating = five (operatingTotal w);
-      actual = effectiveActual w;
+      operating = five (tableTotal t);
+      actual = tableActual t w;
     }
 
 unfoldable pub stepWith : Market → LineTotals → ℕ → ℕ → List ℕ → List ℕ → Step
@@ -47,3 +48,14 @@ stepWith m t l u p f =
       operating = t .operating;
       actual = t .actual;
     }
+
+-- what a step is put together from: step j of line k of the day d, whose line is accepted
+pub record StepReady (d : List ℕ) (k : ℕ) (m : Market) (t : LineTotals) (es ps fs : List ℕ) (lo j : ℕ) : Type 0 where
+  pub accepted : AcceptedLine (layout.lineAt d k)
+  pub step : j < stepCount (layout.lineAt d k)
+  pub market : m ≡ marketOf d
+  pub totals : t ≡ totalsOf (layout.operatingTable (layout.lineAt d k)) (layout.lineAt d k)
+  pub ends : es ≡ cutOf (layout.lineAt d k) .ends
+  pub prices : ps ≡ cutOf (layout.lineAt d k) .prices
+  pub flags : fs ≡ cutOf (layout.lineAt d k) .flags
+  pub lower : lo ≡ lowerEnd (layout.lineAt d k) j

@@ -5,11 +5,11 @@ use mathlib.Core.Path.{_≡_, _∙_, ap}
 use mathlib.Core.List.{List}
 use lib.ListN.{length, getD}
 use Rattle.rules.specs.Fold.{five}
-use Rattle.rules.specs.Layout.{lineAt}
+use Rattle.rules.specs.Layout.{lineAt, operatingTable}
 use Rattle.rules.specs.Steps.{ends, stepCount, upperEnd, lowerEnd, price, flag, capped, paid, accredited, hedged}
 use Rattle.rules.specs.Cutting.{cutOf, flagWord, priceRow, prices, flags}
-use Rattle.rules.specs.Quantities.{operatingTotal, effectiveActual, actualIn}
-use Rattle.rules.specs.Payments.{stepOf, stepPrice, stepFlag, stepPaid}
+use Rattle.rules.specs.Quantities.{tableTotal, tableActual, actualIn}
+use Rattle.rules.specs.Days.{stepOf, stepPrice, stepFlag, stepPaid}
 use Rattle.laws.specs.Folds.{sum-le, at-five, same-five}
 use Rattle.laws.specs.Accepted.{AcceptedLine}
 use Rattle.cutter.specs.Arrays.{bitAt, priceIn, flagIn, bits-at, padded-at, padded-length, rows-at}
@@ -21,7 +21,7 @@ use Rattle.step_inputs.specs.Terms.{cappedAt, cappedIn, paidOn, paidIn}
 -- the parts of `stepOf`, with the cutter's rows
 step-parts : (d : List ℕ) (k j : ℕ) (p f : List ℕ)
     → p ≡ five (λ s. price (lineAt d k) s (upperEnd (lineAt d k) j)) → f ≡ five (stepFlag d k j)
-    → stepWith (marketOf d) (totalsOf (lineAt d k)) (lowerEnd (lineAt d k) j) (upperEnd (lineAt d k) j) p f ≡ stepOf d k j
+    → stepWith (marketOf d) (totalsOf (operatingTable (lineAt d k)) (lineAt d k)) (lowerEnd (lineAt d k) j) (upperEnd (lineAt d k) j) p f ≡ stepOf d k j
 unfolding stepWith marketOf totalsOf cappedIn cappedAt paidIn paidOn stepOf stepPrice stepPaid capped paid accredited hedged
 step-parts d k j p f a b = rw (a, b)
 
@@ -48,7 +48,7 @@ module _ (w : List ℕ) (h : AcceptedLine w) (j : ℕ) (l : j < stepCount w) whe
 
 -- the step that the code puts together from the cutter's answer
 pub step-is : (d : List ℕ) (k j : ℕ) → AcceptedLine (lineAt d k) → j < stepCount (lineAt d k)
-    → stepWith (marketOf d) (totalsOf (lineAt d k)) (lowerEnd (lineAt d k) j) (upperEnd (lineAt d k) j)
+    → stepWith (marketOf d) (totalsOf (operatingTable (lineAt d k)) (lineAt d k)) (lowerEnd (lineAt d k) j) (upperEnd (lineAt d k) j)
     (five (priceIn (cutOf (lineAt d k) .prices) j)) (five (flagIn (cutOf (lineAt d k) .flags) j))
     ≡ stepOf d k j
 unfolding stepFlag
@@ -61,6 +61,6 @@ step-is d k j h l =
     (same-five (f 0 (omega arith)) (f 1 (omega arith)) (f 2 (omega arith)) (f 3 (omega arith)) (f 4 (omega arith)))
 
 -- the effective actual is at most the last operating total
-pub actual-most : (w : List ℕ) → effectiveActual w ≤ operatingTotal w 4
-unfolding effectiveActual operatingTotal actualIn
-actual-most w = sum-le 5 _ _ (λ i l. omega arith)
+pub actual-most : (t : List (List ℕ)) (w : List ℕ) → tableActual t w ≤ tableTotal t 4
+unfolding tableActual tableTotal actualIn
+actual-most t w = sum-le 5 _ _ (λ i l. omega arith)

@@ -1,9 +1,16 @@
 // What one step is worked out from: the market table, a line's totals and the cut step, put together as a `Step`.
 use crate::cap_and_paid::capped_row;
 use crate::cap_and_paid::paid_row;
-use bytes_le::word_at;
+use cutter::read_step::flag_row;
+use cutter::read_step::price_row;
+use layout::fields::accreditation;
+use layout::fields::hedge;
+use layout::fields::side;
+use layout::market::cap_marks;
+use layout::market::clawback;
+use layout::market::market_prices;
+use layout::market::price_cap;
 use line_quantities::rows::actuals;
-use line_quantities::rows::operating_table;
 use line_quantities::rows::pricing_totals;
 use line_quantities::sums::effective_actual;
 use line_quantities::sums::operating_totals;
@@ -12,8 +19,9 @@ ghost use mathlib.Core.Path.{_≡_};
 ghost use Prim.Native.Nat.{ℕ, _≤_, _<_, _^_};
 ghost use lib.ListN.{length};
 ghost use Rattle.rules.specs.Fold.{five, at};
-ghost use Rattle.rules.specs.Refusals.{lineFault};
-ghost use Rattle.step_inputs.specs.Inputs.{marketOf, totalsOf, stepWith};
+ghost use Rattle.rules.specs.Refusals.{lineFaultWith};
+ghost use Rattle.rules.specs.Days.{stepOf};
+ghost use Rattle.step_inputs.specs.Inputs.{marketOf, totalsOf, stepWith, StepReady};
 
 // The market table.
 pub struct Market {
@@ -33,28 +41,16 @@ pub struct LineTotals {
     pub actual: u32,
 }
 
-fn market_row(day: &[u8], at: usize) -> [u32; 5]
-    requires { ⌜ (64 ≤ length (now day)) × (at ≤ 44) ⌝ }
-    ensures { λ r. ⌜ r ≡ five (Rattle.step_inputs.specs.Inputs.wordIn (now (day .entry)) at) ⌝ }
-{
-    [
-        word_at(day, at),
-        word_at(day, at + 4),
-        word_at(day, at + 8),
-        word_at(day, at + 12),
-        word_at(day, at + 16),
-    ]
-}
-
+// The market table.
 pub fn market_of(day: &[u8]) -> Market
     requires { ⌜ 64 ≤ length (now day) ⌝ }
     ensures { λ r. ⌜ r ≡ marketOf (now (day .entry)) ⌝ }
 {
     Market {
-        price: market_row(day, 16),
-        mark: market_row(day, 36),
-        cap: word_at(day, 56),
-        clawback: word_at(day, 60),
+        price: market_prices(day),
+        mark: cap_marks(day),
+        cap: price_cap(day),
+        clawback: clawback(day),
     }
 }
 
@@ -78,17 +74,16 @@ fn narrow_row(row: [u64; 5]) -> [u32; 5]
     ]
 }
 
-// The totals of an accepted line.
-pub fn totals_of(line: &[u8]) -> LineTotals
-    requires { ⌜ (length (now line) ≡ 660) × (lineFault (now line) ≡ 0) ⌝ }
-    ensures { λ r. ⌜ r ≡ totalsOf (now (line .entry)) ⌝ }
+// The totals of a line that is accepted with this table of operating quantities.
+pub fn totals_of(line: &[u8], table: [[u32; 5]; 5]) -> LineTotals
+    requires { ⌜ (length (now line) ≡ 660) × (lineFaultWith table (now line) ≡ 0) ⌝ }
+    ensures { λ r. ⌜ r ≡ totalsOf table (now (line .entry)) ⌝ }
 {
-    let table = operating_table(line);
     let last = table[4];
     LineTotals {
-        side: word_at(line, 8),
-        accreditation: word_at(line, 12),
-        hedge: word_at(line, 16),
+        side: side(line),
+        accreditation: accreditation(line),
+        hedge: hedge(line),
         pricing: narrow_row(pricing_totals(line)),
         operating: narrow_row(operating_totals(table)),
         actual: narrow(effective_actual(last, actuals(line))),
@@ -96,7 +91,7 @@ pub fn totals_of(line: &[u8]) -> LineTotals
 }
 
 // A step from its ends, uncapped prices and flags.
-pub fn step_of(
+fn step_of(
     m: Market,
     t: LineTotals,
     lower: u32,
@@ -122,4 +117,24 @@ pub fn step_of(
         operating,
         actual: t.actual,
     }
+}
+
+// Step j of line k, from the market table, the line's totals and what the cutter answers for it; `lower` is the end before. The day's
+// bytes are not read: the contract speaks of them.
+pub fn step_at(
+    day: &[u8],
+    k: usize,
+    m: Market,
+    t: LineTotals,
+    ends: &[u32; 56],
+    prices: &[u32; 280],
+    flags: [u64; 5],
+    lower: u32,
+    j: usize,
+) -> Step
+    requires { ⌜ StepReady (now day) k m t (now ends) (now prices) flags lower j ⌝ }
+    ensures { λ r. ⌜ r ≡ stepOf (now (day .entry)) k j ⌝ }
+{
+    let upper = ends[j];
+    step_of(m, t, lower, upper, price_row(prices, j), flag_row(flags, j))
 }

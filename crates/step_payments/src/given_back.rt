@@ -1,7 +1,7 @@
 // What falls give back: at the rates of the schedules where the matched units rose, or at the step's own.
-use crate::rates::revised_rates;
-use crate::rises_falls::product;
 use rules::Step;
+use step_changes::rates::revised_rates;
+use step_changes::rises_falls::product;
 ghost use mathlib.Core.Path.{_≡_};
 ghost use mathlib.Core.Bool.{cond};
 ghost use Prim.Native.Nat.{_<_, _^_};
@@ -10,7 +10,8 @@ ghost use Rattle.rules.specs.Fold.{five};
 ghost use Rattle.rules.specs.Payments as paper;
 ghost use Rattle.step_matching.specs.Ledgers.{matchRow};
 ghost use Rattle.step_payments.specs.Sizes.{Sized};
-ghost use Rattle.step_payments.specs.Amounts.{revisedAt, givenAt, minusOf};
+ghost use Rattle.step_payments.specs.Amounts.{givenAt, minusOf};
+ghost use Rattle.step_changes.specs.Changes.{revisedAt};
 
 // What the matches of one schedule give back at these rates.
 fn given_back(m: [u32; 5], rate: [u32; 5]) -> u64

@@ -2,5 +2,3 @@
 pub mod amounts;
 pub mod given_back;
 pub mod payments;
-pub mod rates;
-pub mod rises_falls;

@@ -3,13 +3,13 @@
 use crate::amounts::Money;
 use crate::given_back::modified_minus;
 use crate::given_back::revised_minus;
-use crate::rates::rates;
-use crate::rises_falls::falls;
-use crate::rises_falls::only_paid;
-use crate::rises_falls::products;
-use crate::rises_falls::rises;
 use numbers::signed_difference;
 use rules::Step;
+use step_changes::rates::rates;
+use step_changes::rises_falls::falls;
+use step_changes::rises_falls::only_paid;
+use step_changes::rises_falls::products;
+use step_changes::rises_falls::rises;
 use step_matching::matches::match_table;
 use step_quantities::constrained::constrained_on;
 ghost use mathlib.Core.Path.{_≡_};

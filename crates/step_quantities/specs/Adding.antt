@@ -8,7 +8,8 @@ use Rattle.rules.specs.Fold.{sumTo, five, at}
 use Rattle.rules.specs.Layout.{lineAt}
 use Rattle.rules.specs.Steps.{greatestBreak, stepCount, upperEnd, lowerEnd}
 use Rattle.rules.specs.Quantities.{allocated, pricingTotal, operatingTotal}
-use Rattle.rules.specs.Payments.{stepOf, operatingOn, pricingOn, onStep}
+use Rattle.rules.specs.Payments.{operatingOn, pricingOn, onStep}
+use Rattle.rules.specs.Days.{stepOf}
 use Rattle.laws.specs.Folds.{sum-none, sum-suc, sum-le, sum-same, at-five}
 use Rattle.step_quantities.specs.Bounds.{onStep-most}
 

@@ -1,4 +1,3 @@
--- Rows of allocated quantities (Rows), that the steps' parts add up to a total (Adding), and how large quantities are (Bounds).
-pub mod Rows
+-- That the steps' quantities add up to the totals (Adding), and how large they are (Bounds).
 pub mod Adding
 pub mod Bounds

@@ -1,11 +1,11 @@
 // Constrained on, and AGINO and MSIQ of a step, each for the five schedules at once (document 01, "Quantities").
 use crate::agino::agino;
-use crate::allocation::actual_on;
-use crate::allocation::operating_on;
-use crate::allocation::pricing_on;
 use crate::msiq::msiq;
 use numbers::saturating_sub;
 use rules::Step;
+use step_allocation::actual_on;
+use step_allocation::operating_on;
+use step_allocation::pricing_on;
 ghost use mathlib.Core.Path.{_≡_};
 ghost use Prim.Native.Nat.{_-_};
 ghost use Rattle.rules.specs.Fold.{five};

@@ -1,5 +1,4 @@
-// The quantities of one step (document 01, "Quantities"): allocated, AGINO, MSIQ, constrained on.
+// The quantities of one step (document 01, "Quantities"): AGINO, MSIQ, constrained on.
 mod agino;
-pub mod allocation;
 pub mod constrained;
 mod msiq;

@@ -3,7 +3,6 @@ use crate::digits::put_byte;
 use crate::digits::put_signed;
 use crate::digits::put_spaced;
 use numbers::wide;
-ghost use mathlib.Core.Path.{_≡_};
 ghost use Prim.Native.Nat.{_+_, _*_, _≤_, _<_};
 ghost use mathlib.Core.List.{_++_};
 ghost use lib.ListN.{length};

@@ -5,8 +5,7 @@ use mathlib.Core.List.{List, _++_, append-assoc}
 use lib.IntN.{ℤ}
 use borrow.Author.Tests.{eq-eqb, ne-eqb}
 use Rattle.rules.specs.Fold.{joined, five, atZ}
-use Rattle.rules.specs.Layout.{lineAt, participant, point, side}
-use Rattle.rules.specs.Steps.{stepCount}
+use Rattle.rules.specs.Payments.{Day}
 use Rattle.rules.specs.Report.{decimal, dayText, injectionText, withdrawalText, totalText, adjustedText, space, lineFeed, sideText}
 use Rattle.rules.specs.Report.{numberAfter, fiveNumbers, paymentOf, lineText}
 use Rattle.text.specs.Rows.{numbers, five-is}
@@ -37,13 +36,11 @@ totalsText t a = totalText ++ fiveNumbers t ++ adjustedText ++ fiveNumbers a
 regroup : (x s t u v w : List ℕ) → x ++ s ++ t ++ u ++ v ++ w ≡ x ++ (s ++ t ++ u ++ v) ++ w
 regroup x s t u v w = simp append-assoc
 
-pub line-of : (d : List ℕ) (k : ℕ)
-    → lineText d k ≡ lineTextOf (participant (lineAt d k)) (point (lineAt d k)) (side (lineAt d k)) (stepCount (lineAt d k)) (paymentOf d k)
+pub line-of : (y : Day) (k : ℕ) → lineText y k ≡ lineTextOf (y .participant k) (y .point k) (y .side k) (y .count k) (paymentOf y k)
 unfolding lineText lineTextOf lineIds sideSteps
-line-of d k =
-    regroup (decimal (participant (lineAt d k)) ++ space ++ decimal (point (lineAt d k))) space (sideText (side (lineAt d k))) space
-    (decimal (stepCount (lineAt d k)))
-    (fiveNumbers (paymentOf d k))
+line-of y k =
+    regroup (decimal (y .participant k) ++ space ++ decimal (y .point k)) space (sideText (y .side k)) space (decimal (y .count k))
+    (fiveNumbers (paymentOf y k))
 
 pub line-is : (p q sd n : ℕ) (f : ℕ → ℤ) → lineStart p q sd n f ++ lineFeed ≡ lineTextOf p q sd n f
 unfolding lineStart lineTextOf

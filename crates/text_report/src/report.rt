@@ -2,51 +2,42 @@
 ghost use mathlib.Core.Path.{_≡_};
 ghost use Prim.Native.Nat.{_+_, _*_, _≤_};
 ghost use lib.ListN.{length};
-ghost use Rattle.rules.specs.Fold.{joined, five};
-ghost use Rattle.rules.specs.Layout.{word};
+ghost use Rattle.rules.specs.Fold.{joined};
 ghost use Rattle.rules.specs.Refusals.{bookLength};
 ghost use Rattle.text.specs.Put.{Written};
-ghost use Rattle.book.specs.Framing.{entryAt};
-ghost use Rattle.text_report.specs.BookText.{moneysAt, entryText, bookText, reportMost, reportOf};
+ghost use Rattle.book.specs.Framing.{entryAt, bookLines};
+ghost use Rattle.text_report.specs.BookText.{entryText, bookText, reportMost, reportOf};
 use crate::lines::put_heading;
 use crate::lines::put_line;
 use crate::lines::put_totals;
-use bytes_le::signed_at;
-use bytes_le::word_at;
+use book::entry_at;
+use book::reader::adjusted_totals;
+use book::reader::lines;
+use book::reader::participant;
+use book::reader::payments;
+use book::reader::point;
+use book::reader::side;
+use book::reader::step_count;
+use book::reader::totals;
 use text::refused::put_refused;
 
 // The bytes that the longest report takes: its first line, 64 lines, the totals.
 pub const REPORT_MOST: usize = 25 + 177 * 64 + 235;
-
-// Five signed numbers, `step` bytes apart, the first at byte `at`.
-fn five_at(b: &[u8], at: usize, step: usize) -> [i64; 5]
-    requires { ⌜ at + 4 * step + 8 ≤ length (now b) ⌝ }
-    ensures { λ r. ⌜ r ≡ five (moneysAt (now (b .entry)) at step) ⌝ }
-{
-    [
-        signed_at(b, at),
-        signed_at(b, at + step),
-        signed_at(b, at + 2 * step),
-        signed_at(b, at + 3 * step),
-        signed_at(b, at + 4 * step),
-    ]
-}
 
 // The line of a book's entry k.
 fn put_entry(out: &mut [u8], at: usize, book: &[u8], k: usize) -> usize
     requires { ⌜ (at + 177 ≤ length (now out)) × (entryAt k + 56 ≤ length (now book)) ⌝ }
     ensures { λ r. ⌜ Written 177 (now (out .entry)) at (entryText (now (book .entry)) k) r (now (out .exit)) ⌝ }
 {
-    let e = 96 + 56 * k;
-    let payments = five_at(book, e + 16, 8);
+    let paid = payments(book, k);
     put_line(
         out,
         at,
-        word_at(book, e),
-        word_at(book, e + 4),
-        word_at(book, e + 8),
-        word_at(book, e + 12),
-        payments,
+        participant(book, k),
+        point(book, k),
+        side(book, k),
+        step_count(book, k),
+        paid,
     )
 }
 
@@ -66,12 +57,12 @@ fn put_entries(out: &mut [u8], at: usize, book: &[u8], n: usize) -> usize
 
 // The report of a book.
 fn put_book(out: &mut [u8], book: &[u8], n: u32) -> usize
-    requires { ⌜ (reportMost ≤ length (now out)) × (n ≡ word (now book) 0) × (n ≤ 64) × (bookLength n ≤ length (now book)) ⌝ }
+    requires { ⌜ (reportMost ≤ length (now out)) × (n ≡ bookLines (now book)) × (n ≤ 64) × (bookLength n ≤ length (now book)) ⌝ }
     ensures { λ r. ⌜ Written reportMost (now (out .entry)) 0 (bookText (now (book .entry))) r (now (out .exit)) ⌝ }
 {
     let a = put_heading(out, 0, n);
     let b = put_entries(out, a, book, n as usize);
-    put_totals(out, b, five_at(book, 16, 16), five_at(book, 24, 16))
+    put_totals(out, b, totals(book), adjusted_totals(book))
 }
 
 // The report: of a refusal where the number isn't 0, else of the book. It answers how many bytes it put, and puts none where
@@ -87,14 +78,14 @@ pub fn report(number: u32, book: &[u8], out: &mut [u8]) -> usize
     if number != 0 {
         return put_refused(out, 0, number);
     }
-    if book.len() < 96 {
+    if book.len() < entry_at(0) {
         return 0;
     }
-    let n = word_at(book, 0);
+    let n = lines(book);
     if n > 64 {
         return 0;
     }
-    if book.len() < 96 + 56 * n as usize {
+    if book.len() < entry_at(n as usize) {
         return 0;
     }
     put_book(out, book, n)

@@ -1,10 +1,12 @@
 // What the program `steps` prints, written into lent bytes: for each line of a day its heading, and for each of its steps the figures
 // that the step view answers.
 use crate::view_text::put_view;
-use bytes_le::word_at;
 use day::day_number;
-use day::header::line_count;
-use day::header::line_of;
+use layout::fields::participant;
+use layout::fields::point;
+use layout::fields::side;
+use layout::header::line_count;
+use layout::header::line_of;
 use text::digits::put_byte;
 use text::digits::put_bytes;
 use text::digits::put_decimal;
@@ -47,8 +49,8 @@ fn put_line_head(out: &mut [u8], at: usize, k: usize, line: &[u8], count: u32) -
     let a = put_bytes(out, at, b"line ");
     let b = put_decimal(out, a, k as u64);
     let c = put_byte(out, b, b' ');
-    let d = put_ids(out, c, word_at(line, 0), word_at(line, 4));
-    let e = put_side_steps(out, d, word_at(line, 8), count);
+    let d = put_ids(out, c, participant(line), point(line));
+    let e = put_side_steps(out, d, side(line), count);
     put_byte(out, e, b'\n')
 }
 

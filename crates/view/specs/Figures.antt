@@ -11,7 +11,8 @@ use Rattle.rules.specs.Layout.{lineCount, lineAt, side, clawback}
 use Rattle.rules.specs.Steps.{stepCount, width}
 use Rattle.rules.specs.Refusals.{dayFault, viewFault}
 use Rattle.rules.specs.Matching.{tenMatches}
-use Rattle.rules.specs.Payments.{stepOf, operatingOn, pricingOn, actualOn, aginoOn, msiqOn, onStep, initial, revised, modified}
+use Rattle.rules.specs.Payments.{operatingOn, pricingOn, actualOn, aginoOn, msiqOn, onStep, initial, revised, modified}
+use Rattle.rules.specs.Days.{stepOf, settledDay}
 use Rattle.rules.specs.Viewing.{finalIn, viewOf, viewRefused, viewAnswer}
 use Rattle.rules.specs.declared.Step.{Step}
 use Rattle.rules.specs.declared.View.{View}
@@ -19,7 +20,7 @@ use Rattle.laws.specs.Folds.{stops, passes, ends-at, none-at, part-stops, part-
 use Rattle.numbers.specs.Fives.{five-same}
 use Rattle.step_pool.specs.declared.pool_amounts.SidePool.{SidePool}
 use Rattle.step_pool.specs.Amounts.{finalOn}
-use Rattle.day_pools.specs.Lines.{PoolFor, finalAt, final-is}
+use Rattle.day_pools.specs.Lines.{PoolFor, final-is}
 
 unfoldable pub viewFrom : Step → ℕ → SidePool → View
 viewFrom x claw p =
@@ -43,10 +44,10 @@ viewFrom x claw p =
     }
 
 -- of step j of line k they are the view's
-pub view-is : (d : List ℕ) (k j : ℕ) (p : SidePool) → PoolFor d (side (lineAt d k)) p → viewFrom (stepOf d k j) (clawback d) p ≡ viewOf d k j
-unfolding viewFrom viewOf width finalIn stepOf finalAt
+pub view-is : (d : List ℕ) (k j : ℕ) (p : SidePool) → PoolFor (settledDay d) (side (lineAt d k)) p → viewFrom (stepOf d k j) (clawback d) p ≡ viewOf d k j
+unfolding viewFrom viewOf width stepOf
 view-is d k j p h =
-    let e = five-same (finalOn (stepOf d k j) (clawback d) p) (finalIn d k j) (final-is d k j p h) in
+    let e = five-same (finalOn (stepOf d k j) (clawback d) p) (finalIn (settledDay d) k j) (final-is (settledDay d) k j p h) in
     λ i. record {
       number = 0;
       end = viewOf d k j .end;

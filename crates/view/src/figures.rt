@@ -1,15 +1,15 @@
 // The figures of one step, which the step view answers.
 use rules::Step;
 use rules::View;
+use step_allocation::actual_on;
+use step_allocation::operating_on;
+use step_allocation::pricing_on;
 use step_finals::finals::finals;
 use step_matching::matches::ten_matches;
 use step_payments::payments::initial;
 use step_payments::payments::modified;
 use step_payments::payments::revised;
 use step_pool::pool_amounts::SidePool;
-use step_quantities::allocation::actual_on;
-use step_quantities::allocation::operating_on;
-use step_quantities::allocation::pricing_on;
 use step_quantities::constrained::agino_on;
 use step_quantities::constrained::constrained_on;
 use step_quantities::constrained::msiq_on;

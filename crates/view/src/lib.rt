@@ -2,15 +2,14 @@
 mod figures;
 
 use crate::figures::figures;
-use cutter::read_step::flag_row;
-use cutter::read_step::price_row;
 use day::day_number;
-use day::header::line_count;
-use day::header::line_of;
 use day_pools::pool_for;
+use layout::header::line_count;
+use layout::header::line_of;
+use line_quantities::rows::operating_table;
 use rules::View;
 use step_inputs::inputs::market_of;
-use step_inputs::inputs::step_of;
+use step_inputs::inputs::step_at;
 use step_inputs::inputs::totals_of;
 ghost use mathlib.Core.Path.{_≡_};
 ghost use Prim.Native.Nat.{_<_};
@@ -74,14 +73,17 @@ pub fn view(day: &[u8], line: usize, step: usize) -> View
     let prices = cut.prices;
     let flags = cut.flags;
     let m = market_of(day);
-    let t = totals_of(part);
-    let x = step_of(
+    let t = totals_of(part, operating_table(part));
+    let x = step_at(
+        day,
+        line,
         m,
         t,
+        &ends,
+        &prices,
+        flags,
         lower_end(&ends, step),
-        ends[step],
-        price_row(&prices, step),
-        flag_row(flags, step),
+        step,
     );
     let p = pool_for(day, m, x.side);
     figures(x, m.clawback, p)

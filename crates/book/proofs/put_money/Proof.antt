@@ -15,8 +15,4 @@ returns c =
 pub put-money-spec : {M : Type 1} → statement M
 put-money-spec =
     tie.close
-    (tie.spec
-    (λ c κs. search needs)
-    (λ c. search needs)
-    (λ c. search needs)
-    returns)
+    (tie.spec (λ c κs. search needs) (λ c. search needs) (λ c. search needs) returns)

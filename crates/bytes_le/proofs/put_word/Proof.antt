@@ -23,17 +23,6 @@ returns c = simp towards-suc
 pub put-word-spec : {M : Type 1} → statement M
 put-word-spec =
     tie.close
-    (tie.spec
-    (λ c. search needs)
-    (λ c. search needs)
-    (λ c. search needs)
-    (λ c. search needs)
-    slice-write-b-2
-    (λ c. search needs)
-    (λ c. search needs)
-    slice-write-b-3
-    (λ c. search needs)
-    (λ c. search needs)
-    slice-write-b-4
-    (λ c. search needs)
-    returns)
+    (tie.spec (λ c. search needs) (λ c. search needs) (λ c. search needs) (λ c. search needs) slice-write-b-2
+    (λ c. search needs) (λ c. search needs) slice-write-b-3 (λ c. search needs) (λ c. search needs) slice-write-b-4
+    (λ c. search needs) returns)

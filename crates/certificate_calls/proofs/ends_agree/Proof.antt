@@ -37,11 +37,5 @@ returns-2 c =
 pub ends-agree-spec : {M : Type 1} → statement M
 ends-agree-spec =
     tie.close
-    (tie.spec
-    (λ c κs. search needs)
-    (λ c. search needs)
-    (λ c κs. search needs)
-    (λ c κs. search needs)
-    mul-result
-    array-read-result
-    returns-2)
+    (tie.spec (λ c κs. search needs) (λ c. search needs) (λ c κs. search needs) (λ c κs. search needs) mul-result
+    array-read-result returns-2)

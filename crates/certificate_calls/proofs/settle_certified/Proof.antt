@@ -19,7 +19,4 @@ returns c =
 pub settle-certified-spec : {M : Type 1} → statement M
 settle-certified-spec =
     tie.close
-    (tie.spec
-    (λ c κs. search needs)
-    (λ c. search needs)
-    returns)
+    (tie.spec (λ c κs. search needs) (λ c. search needs) returns)

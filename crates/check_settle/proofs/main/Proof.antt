@@ -19,13 +19,5 @@ loop-less c = omega arith
 pub main-spec : {M : Type 1} → statement M
 main-spec =
     tie.close
-    (tie.spec
-    Inv-loop
-    μ-loop
-    (λ c. search needs)
-    (λ c κs. search needs)
-    sub-turns
-    loop-less
-    (λ c. search needs)
-    (λ c. search needs)
-    (λ c. search needs))
+    (tie.spec Inv-loop μ-loop (λ c. search needs) (λ c κs. search needs) sub-turns loop-less (λ c. search needs)
+    (λ c. search needs) (λ c. search needs))

@@ -13,10 +13,5 @@ slice-aggregate-write-all c = sym (length-take-le _ _ (omega (arith, c .before .
 pub print-report-spec : {M : Type 1} → statement M
 print-report-spec =
     tie.close
-    (tie.spec
-    (λ c. search needs)
-    (λ c κs. search needs)
-    (λ c. search needs)
-    slice-aggregate-write-all
-    (λ c κs. search needs)
-    (λ c. search needs))
+    (tie.spec (λ c. search needs) (λ c κs. search needs) (λ c. search needs) slice-aggregate-write-all
+    (λ c κs. search needs) (λ c. search needs))

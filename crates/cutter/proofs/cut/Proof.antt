@@ -28,11 +28,4 @@ returns-3 c = cut-whole _ (c .before .before .before .if1 .left) (c .before .bef
 pub cut-spec : {M : Type 1} → statement M
 cut-spec =
     tie.close
-    (tie.spec
-    refused-requires
-    returns
-    line-number-requires
-    refused-requires-2
-    returns-2
-    steps-requires
-    returns-3)
+    (tie.spec refused-requires returns line-number-requires refused-requires-2 returns-2 steps-requires returns-3)

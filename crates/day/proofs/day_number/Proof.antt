@@ -2,7 +2,7 @@
 use native.Mathlib.Omega.{arith}
 use borrow.Author.Needs.{needs}
 use Rattle.day.proofs.Laws.{day-header, day-market, day-lines, day-keys}
-use Rattle.day.proofs.header.Header.{the-header}
+use Rattle.day_header.proofs.Header.{the-header}
 use Rattle.day.proofs.day_number.Statement.{statement}
 use Rattle.day.proofs.day_number.Tie as tie
 
@@ -56,13 +56,5 @@ returns-4 c =
 pub day-number-spec : {M : Type 1} → statement M
 day-number-spec =
     tie.close
-    (tie.spec
-    (λ c κs. search needs)
-    returns
-    market-number-requires
-    returns-2
-    line-count-requires
-    lines-number-requires
-    returns-3
-    keys-number-requires
-    returns-4)
+    (tie.spec (λ c κs. search needs) returns market-number-requires returns-2 line-count-requires
+    lines-number-requires returns-3 keys-number-requires returns-4)

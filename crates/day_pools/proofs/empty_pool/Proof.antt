@@ -11,5 +11,4 @@ returns c = refl
 pub empty-pool-spec : {M : Type 1} → statement M
 empty-pool-spec =
     tie.close
-    (tie.spec
-    returns)
+    (tie.spec returns)

@@ -6,18 +6,19 @@ use native.Mathlib.Omega.{arith}
 use borrow.Author.Needs.{needs}
 use Rattle.rules.specs.Cutting.{prices, flags}
 use Rattle.rules.specs.Layout.{lineAt}
-use Rattle.rules.specs.Payments.{stepOf}
+use Rattle.rules.specs.Days.{settledDay}
 use Rattle.rules.specs.Steps.{ends, lowerEnd}
 use Rattle.day_pools.specs.Sums.{poolTo, pool-whole}
 use Rattle.day_pools.specs.Sides.{stepPoolAt, linePool}
 use Rattle.day_pools.specs.Lines.{no-pool}
-use Rattle.day_pools.proofs.Laws.{line-lies, lent-length, lent-accepted, lent-line, count-is, count-few, step-built, step-sized, next-lower}
+use Rattle.day_pools.proofs.Laws.{line-lies, lent-length, lent-with, lent-line, count-is, count-few, step-there, step-sized, next-lower}
 use Rattle.day_pools.proofs.Laws.{pool-addable, pool-next}
 use Rattle.day_pools.proofs.line_pool.Statement.{statement}
 use Rattle.day_pools.proofs.line_pool.Tie as tie
 
 abbrev Inv-loop : tie.InvT-loop
-Inv-loop day k m t ends prices flags n pool₀ lower₀ j₀ pool lower j = (j ≤ n) × (lower ≡ lowerEnd (lineAt day k) j) × (pool ≡ poolTo j (stepPoolAt day k))
+Inv-loop day k m t ends prices flags n pool₀ lower₀ j₀ pool lower j =
+    (j ≤ n) × (lower ≡ lowerEnd (lineAt day k) j) × (pool ≡ poolTo j (stepPoolAt (settledDay day) k))
 
 abbrev μ-loop : tie.MeasureT-loop
 μ-loop day k m t ends prices flags n pool₀ lower₀ j₀ pool lower j = n - j
@@ -27,135 +28,97 @@ line-of-requires c κs =
     let at-start = c .before in
     line-lies (now (at-start .args .day)) (at-start .pre .0) (at-start .args .k) (at-start .pre .1)
 
+operating-table-requires : tie.Need-operating-table-requires Inv-loop μ-loop
+operating-table-requires c κs =
+    let at-start = c .before .before in
+    lent-length (now (at-start .args .day)) (at-start .pre .0) (at-start .args .k) (at-start .pre .1) _
+    (c .line-of .ensures)
+
 totals-of-requires : tie.Need-totals-of-requires Inv-loop μ-loop
 totals-of-requires c κs =
-    let at-start = c .before .before in
+    let after-line-of = c .before in
+    let at-start = after-line-of .before .before in
     let day = now (at-start .args .day) in
-    let k = at-start .args .k in (
-      lent-length day (at-start .pre .0) k (at-start .pre .1) _ (c .line-of .ensures),
-      lent-accepted day (at-start .pre .0) k (at-start .pre .1) _ (c .line-of .ensures),
-    )
+    let k = at-start .args .k in
+    let lent-with′ = lent-with day (at-start .pre .0) k (at-start .pre .1) _ (after-line-of .line-of .ensures) _
+    (c .operating-table .ensures) in
+    (lent-length day (at-start .pre .0) k (at-start .pre .1) _ (after-line-of .line-of .ensures), lent-with′)
 
 steps-requires : tie.Need-steps-requires Inv-loop μ-loop
 steps-requires c κs =
-    let at-start = c .before .before .before in
+    let at-start = c .before .before .before .before in
     lent-line (now (at-start .args .day)) (at-start .pre .0) (at-start .args .k) (at-start .pre .1) _
-    (c .before .line-of .ensures)
+    (c .before .before .line-of .ensures)
 
 loop-holds : tie.Need-loop-holds Inv-loop μ-loop
 unfolding lowerEnd
 loop-holds c =
-    let at-start = c .before .before .before .before .before .before .before .before .before in
-    (omega arith, refl, c .empty-pool .ensures ∙ no-pool (stepPoolAt (now (at-start .args .day)) (at-start .args .k)))
+    let at-start = c .before .before .before .before .before .before .before .before .before .before in
+    (omega arith, refl, c .empty-pool .ensures ∙ no-pool (stepPoolAt (settledDay (now (at-start .args .day))) (at-start .args .k)))
 
--- the line has at most 56 steps
-few : (c : tie.After-steps Inv-loop μ-loop) → c .steps .result .count ≤ 56
-few c =
-    let at-start = c .before .before .before .before in
-    count-few (now (at-start .args .day)) (at-start .pre .0) (at-start .args .k) (at-start .pre .1) _
-    (c .before .before .line-of .ensures) _ (c .steps .ensures)
-
--- the step is put together
-abbrev start : tie.After-step-of Inv-loop μ-loop → tie.Start Inv-loop μ-loop
-start c =
-    let at-loop = c .before .before .before .before .before in
+step-at-requires : tie.Need-step-at-requires Inv-loop μ-loop
+step-at-requires c κs =
+    let at-loop = c .before .before .before in
     let after-steps = at-loop .before .before .before .before .before .before in
-    let at-start = after-steps .before .before .before .before in
-    at-start
-
-abbrev turn : tie.After-step-of Inv-loop μ-loop → ℕ
-turn c = let at-loop = c .before .before .before .before .before in at-loop .loop .j
-
-built : (c : tie.After-step-of Inv-loop μ-loop) → c .step-of .result ≡ stepOf (now (start c .args .day)) (start c .args .k) (turn c)
-built c =
-    let at-loop = c .before .before .before .before .before in
-    let after-steps = at-loop .before .before .before .before .before .before in
-    let at-start = after-steps .before .before .before .before in
-    step-built (now (at-start .args .day)) (at-start .pre .0) (at-start .args .k) (at-start .pre .1) _
-    (after-steps .before .before .line-of .ensures) _ (after-steps .steps .ensures) (at-loop .loop .j) (omega arith) _ _ _ _ _ _ _
-    (at-start .pre .2) (after-steps .before .totals-of .ensures) (at-loop .loop .inv .1) refl
-    (c .before .before .price-row .ensures) (c .before .flag-row .ensures) (c .step-of .ensures)
-
-array-read-upper : tie.Need-array-read-upper Inv-loop μ-loop
-array-read-upper c =
-    let after-steps = c .before .before .before .before .before .before .before in
-    omega (arith, few after-steps)
-
-price-row-requires : tie.Need-price-row-requires Inv-loop μ-loop
-price-row-requires c κs =
-    let after-steps = c .before .before .before .before .before .before .before .before in
-    omega (arith, few after-steps)
-
-flag-row-requires : tie.Need-flag-row-requires Inv-loop μ-loop
-flag-row-requires c κs =
-    let after-steps = c .before .before .before .before .before .before .before .before .before in
-    omega (arith, few after-steps)
+    let at-start = after-steps .before .before .before .before .before in
+    step-there (now (at-start .args .day)) (at-start .pre .0) (at-start .args .k) (at-start .pre .1) _
+    (after-steps .before .before .before .line-of .ensures) _ (after-steps .steps .ensures) (at-loop .loop .j)
+    (omega (arith, c)) _ _ _ _ (at-start .pre .2)
+    (after-steps .before .before .operating-table .ensures)
+    (after-steps .before .totals-of .ensures) (at-loop .loop .inv .1)
 
 pool-with-requires : tie.Need-pool-with-requires Inv-loop μ-loop
 pool-with-requires c κs =
-    let at-loop = c .before .before .before .before .before in
+    let at-loop = c .before .before .before .before in
     let after-steps = at-loop .before .before .before .before .before .before in
-    let at-start = after-steps .before .before .before .before in
+    let after-line-of = after-steps .before .before .before in
+    let at-start = after-line-of .before .before in
     let day = now (at-start .args .day) in
     let k = at-start .args .k in
-    let line-of-ensures = after-steps .before .before .line-of .ensures in
-    let step-built′ = built c in
-    let step-sized′ = step-sized day (at-start .pre .0) k (at-start .pre .1) _ line-of-ensures _
-    (after-steps .steps .ensures) (at-loop .loop .j) (omega arith) _ step-built′ in
-    let pool-addable′ = pool-addable day (at-start .pre .0) k (at-start .pre .1) _ line-of-ensures _
-    (after-steps .steps .ensures) (at-loop .loop .j) (omega arith) _ _ step-built′ (at-loop .loop .inv .2) in
-    (step-sized′, pool-addable′, pool-whole (at-loop .loop .j) (stepPoolAt day k) _ (at-loop .loop .inv .2))
+    let step-sized′ = step-sized day (at-start .pre .0) k (at-start .pre .1) _ (after-line-of .line-of .ensures) _
+    (after-steps .steps .ensures) (at-loop .loop .j) (omega (arith, c)) _ (c .step-at .ensures) in
+    let pool-addable′ = pool-addable day (at-start .pre .0) k (at-start .pre .1) _ (after-line-of .line-of .ensures) _
+    (after-steps .steps .ensures) (at-loop .loop .j) (omega (arith, c)) _ _ (c .step-at .ensures) (at-loop .loop .inv .2) in
+    (step-sized′, pool-addable′, pool-whole (at-loop .loop .j) (stepPoolAt (settledDay day) k) _ (at-loop .loop .inv .2))
 
 add-j : tie.Need-add-j Inv-loop μ-loop
 add-j c =
-    let after-steps = c .before .before .before .before .before .before .before .before .before .before .before .before in
-    record { fits = omega (arith, c, few after-steps) }
+    let after-steps = c .before .before .before .before .before .before .before .before .before .before .before in
+    let at-start = after-steps .before .before .before .before .before in
+    let count-few′ = count-few (now (at-start .args .day)) (at-start .pre .0) (at-start .args .k) (at-start .pre .1) _
+    (after-steps .before .before .before .line-of .ensures) _ (after-steps .steps .ensures) in
+    record { fits = omega (arith, c, count-few′) }
 
 loop-again : tie.Need-loop-again Inv-loop μ-loop
 loop-again c =
-    let at-loop = c .before .before .before .before .before .before in
+    let after-step-at = c .before in
+    let at-loop = after-step-at .before .before .before .before in
     let after-steps = at-loop .before .before .before .before .before .before in
-    let at-start = after-steps .before .before .before .before in
+    let after-line-of = after-steps .before .before .before in
+    let at-start = after-line-of .before .before in
     let day = now (at-start .args .day) in
     let k = at-start .args .k in
-    let line-of-ensures = after-steps .before .before .line-of .ensures in
-    let next-lower′ = next-lower day (at-start .pre .0) k (at-start .pre .1) _ line-of-ensures _
-    (after-steps .steps .ensures) (at-loop .loop .j) (omega (arith, c)) _ refl in
-    let step-built′ = built (c .before) in
-    let pool-next′ = pool-next day (at-start .pre .0) k (at-start .pre .1) _ line-of-ensures _ (after-steps .steps .ensures)
-    (at-loop .loop .j) (omega (arith, c)) _ _ _ step-built′ (at-loop .loop .inv .2) (c .pool-with .ensures) in
+    let next-lower′ = next-lower day (at-start .pre .0) k (at-start .pre .1) _ (after-line-of .line-of .ensures) _
+    (after-steps .steps .ensures) (at-loop .loop .j) (omega (arith, c)) _ (after-step-at .step-at .ensures) in
+    let pool-next′ = pool-next day (at-start .pre .0) k (at-start .pre .1) _ (after-line-of .line-of .ensures) _
+    (after-steps .steps .ensures) (at-loop .loop .j) (omega (arith, c)) _ _ _ (after-step-at .step-at .ensures)
+    (at-loop .loop .inv .2) (c .pool-with .ensures) in
     (omega (arith, c), next-lower′, pool-next′)
 
 returns : tie.Need-returns Inv-loop μ-loop
 unfolding linePool
 returns c =
     let after-steps = c .before .before .before .before .before .before .before in
-    let at-start = after-steps .before .before .before .before in
+    let at-start = after-steps .before .before .before .before .before in
     let day = now (at-start .args .day) in
     let k = at-start .args .k in
-    let count-is′ = count-is day (at-start .pre .0) k (at-start .pre .1) _ (after-steps .before .before .line-of .ensures) _
-    (after-steps .steps .ensures) in
-    c .before .loop .inv .2 ∙ ap (λ (z : ℕ). poolTo z (stepPoolAt day k)) (omega (arith, count-is′))
+    let count-is′ = count-is day (at-start .pre .0) k (at-start .pre .1) _
+    (after-steps .before .before .before .line-of .ensures) _ (after-steps .steps .ensures) in
+    c .before .loop .inv .2 ∙ ap (λ (z : ℕ). poolTo z (stepPoolAt (settledDay day) k)) (omega (arith, count-is′))
 
 pub line-pool-spec : {M : Type 1} → statement M
 line-pool-spec =
     tie.close
-    (tie.spec
-    Inv-loop
-    μ-loop
-    line-of-requires
-    totals-of-requires
-    steps-requires
-    (λ c. search needs)
-    (λ c κs. search needs)
-    loop-holds
-    (λ c. search needs)
-    array-read-upper
-    price-row-requires
-    flag-row-requires
-    (λ c κs. search needs)
-    pool-with-requires
-    add-j
-    (λ c. search needs)
-    loop-again
-    returns)
+    (tie.spec Inv-loop μ-loop line-of-requires operating-table-requires totals-of-requires steps-requires
+    (λ c. search needs) (λ c κs. search needs) loop-holds step-at-requires pool-with-requires add-j
+    (λ c. search needs) loop-again returns)

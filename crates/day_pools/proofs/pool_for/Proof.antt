@@ -16,8 +16,4 @@ returns-2 c = pool-on _ _ _ (c .side-pool .ensures)
 pub pool-for-spec : {M : Type 1} → statement M
 pool-for-spec =
     tie.close
-    (tie.spec
-    (λ c κs. search needs)
-    returns
-    (λ c κs. search needs)
-    returns-2)
+    (tie.spec (λ c κs. search needs) returns (λ c κs. search needs) returns-2)

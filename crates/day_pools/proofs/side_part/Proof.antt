@@ -11,28 +11,24 @@ line-of-requires c κs =
     let at-start = c .before in
     line-lies (now (at-start .args .day)) (at-start .pre .0) (at-start .args .k) (at-start .pre .1)
 
-word-at-requires : tie.Need-word-at-requires
-word-at-requires c κs =
+side-requires : tie.Need-side-requires
+side-requires c κs =
     let at-start = c .before .before in
     omega (arith, lent-length (now (at-start .args .day)) (at-start .pre .0) (at-start .args .k) (at-start .pre .1) _ (c .line-of .ensures))
 
 returns : tie.Need-returns
 returns c =
-    part-other _ _ _ _ _ _ (c .before .before .before .line-of .ensures) (c .before .before .word-at .ensures)
+    let at-start = c .before .before .before .before .before in
+    part-other (now (at-start .args .day)) _ _ _ _ _ (c .before .before .before .line-of .ensures) (c .before .before .side .ensures)
     (c .before .if1 .taken) (c .empty-pool .ensures)
 
 returns-2 : tie.Need-returns-2
 returns-2 c =
-    part-own _ _ _ _ _ _ (c .before .before .before .line-of .ensures) (c .before .before .word-at .ensures)
+    let at-start = c .before .before .before .before .before in
+    part-own (now (at-start .args .day)) _ _ _ _ _ (c .before .before .before .line-of .ensures) (c .before .before .side .ensures)
     (c .before .if1 .left) (c .line-pool .ensures)
 
 pub side-part-spec : {M : Type 1} → statement M
 side-part-spec =
     tie.close
-    (tie.spec
-    line-of-requires
-    word-at-requires
-    (λ c κs. search needs)
-    returns
-    (λ c κs. search needs)
-    returns-2)
+    (tie.spec line-of-requires side-requires (λ c κs. search needs) returns (λ c κs. search needs) returns-2)

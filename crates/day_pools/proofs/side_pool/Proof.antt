@@ -4,6 +4,8 @@ use mathlib.Core.Path.{_≡_, _∙_}
 use denote.Ref.{now}
 use native.Mathlib.Omega.{arith}
 use borrow.Author.Needs.{needs}
+use Rattle.rules.specs.Days.{settledDay}
+use Rattle.step_inputs.specs.Paid.{settled-sized}
 use Rattle.day_pools.specs.Sums.{poolTo}
 use Rattle.day_pools.specs.Sides.{sidePart}
 use Rattle.day_pools.specs.Lines.{no-pool}
@@ -12,7 +14,7 @@ use Rattle.day_pools.proofs.side_pool.Statement.{statement}
 use Rattle.day_pools.proofs.side_pool.Tie as tie
 
 abbrev Inv-loop : tie.InvT-loop
-Inv-loop day m sd n pool₀ k₀ pool k = (k ≤ n) × (pool ≡ poolTo k (sidePart day sd))
+Inv-loop day m sd n pool₀ k₀ pool k = (k ≤ n) × (pool ≡ poolTo k (sidePart (settledDay day) sd))
 
 abbrev μ-loop : tie.MeasureT-loop
 μ-loop day m sd n pool₀ k₀ pool k = n - k
@@ -23,7 +25,7 @@ line-count-requires c κs = omega (arith, c .before .pre .0 .header .length-leas
 loop-holds : tie.Need-loop-holds Inv-loop μ-loop
 loop-holds c =
     let at-start = c .before .before .before in
-    (omega arith, c .empty-pool .ensures ∙ no-pool (sidePart (now (at-start .args .day)) (at-start .args .sd)))
+    (omega arith, c .empty-pool .ensures ∙ no-pool (sidePart (settledDay (now (at-start .args .day))) (at-start .args .sd)))
 
 side-part-requires : tie.Need-side-part-requires Inv-loop μ-loop
 side-part-requires c κs =
@@ -34,14 +36,15 @@ pool-add-requires : tie.Need-pool-add-requires Inv-loop μ-loop
 pool-add-requires c κs =
     let at-loop = c .before .before in
     let at-start = at-loop .before .before .before .before in
-    side-addable (now (at-start .args .day)) (at-start .pre .0) (at-start .args .sd) (at-loop .loop .k)
+    let day = now (at-start .args .day) in
+    side-addable (settledDay day) (at-start .args .sd) (settled-sized day (at-start .pre .0)) (at-loop .loop .k)
     (omega (arith, at-loop .before .before .line-count .ensures)) _ _ (at-loop .loop .inv .1) (c .side-part .ensures)
 
 loop-again : tie.Need-loop-again Inv-loop μ-loop
 loop-again c =
     let at-loop = c .before .before .before in
     let at-start = at-loop .before .before .before .before in
-    let side-next′ = side-next (now (at-start .args .day)) (at-start .pre .0) (at-start .args .sd) (at-loop .loop .k) _ _ _
+    let side-next′ = side-next (settledDay (now (at-start .args .day))) (at-start .args .sd) (at-loop .loop .k) _ _ _
     (at-loop .loop .inv .1) (c .before .side-part .ensures) (c .pool-add .ensures) in
     (omega arith, side-next′)
 
@@ -49,21 +52,11 @@ returns : tie.Need-returns Inv-loop μ-loop
 returns c =
     let at-loop = c .before in
     let at-start = at-loop .before .before .before .before in
-    side-whole (now (at-start .args .day)) (at-start .args .sd) _ (at-loop .loop .k) _
+    side-whole (settledDay (now (at-start .args .day))) (at-start .args .sd) _ (at-loop .loop .k) _
     (at-loop .before .before .line-count .ensures) (at-loop .loop .inv .0) (c .loop-test .left) (at-loop .loop .inv .1)
 
 pub side-pool-spec : {M : Type 1} → statement M
 side-pool-spec =
     tie.close
-    (tie.spec
-    Inv-loop
-    μ-loop
-    line-count-requires
-    (λ c κs. search needs)
-    loop-holds
-    side-part-requires
-    pool-add-requires
-    (λ c. search needs)
-    (λ c. search needs)
-    loop-again
-    returns)
+    (tie.spec Inv-loop μ-loop line-count-requires (λ c κs. search needs) loop-holds side-part-requires
+    pool-add-requires (λ c. search needs) (λ c. search needs) loop-again returns)

@@ -151,19 +151,6 @@ returns c =
 pub adjusted-spec : {M : Type 1} → statement M
 adjusted-spec =
     tie.close
-    (tie.spec
-    (λ c. search needs)
-    least-requires
-    least-requires-2
-    least-requires-3
-    least-requires-4
-    share-requires
-    carry-requires
-    share-requires-2
-    carry-requires-2
-    share-requires-3
-    carry-requires-3
-    share-requires-4
-    carry-requires-4
-    share-requires-5
-    returns)
+    (tie.spec (λ c. search needs) least-requires least-requires-2 least-requires-3 least-requires-4 share-requires
+    carry-requires share-requires-2 carry-requires-2 share-requires-3 carry-requires-3 share-requires-4
+    carry-requires-4 share-requires-5 returns)

@@ -59,12 +59,5 @@ returns-3 c =
 pub adjusted-in-spec : {M : Type 1} → statement M
 adjusted-in-spec =
     tie.close
-    (tie.spec
-    (λ c κs. search needs)
-    returns
-    (λ c. search needs)
-    (λ c. search needs)
-    (λ c κs. search needs)
-    returns-2
-    owed-requires
-    returns-3)
+    (tie.spec (λ c κs. search needs) returns (λ c. search needs) (λ c. search needs) (λ c κs. search needs) returns-2
+    owed-requires returns-3)

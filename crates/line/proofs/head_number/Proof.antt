@@ -5,20 +5,15 @@ use Rattle.line.proofs.head_number.Statement.{statement}
 use Rattle.line.proofs.head_number.Tie as tie
 
 returns : tie.Need-returns
-returns c = head-side _ _ (c .before .word-at .ensures) (c .if1 .taken)
+returns c = head-side _ _ (c .before .side .ensures) (c .if1 .taken)
 
 returns-2 : tie.Need-returns-2
-returns-2 c = head-accreditation _ _ (c .before .before .before .word-at .ensures) (c .before .before .if1 .left) _ (c .before .word-at2 .ensures) (c .if2 .taken)
+returns-2 c = head-accreditation _ _ (c .before .before .before .side .ensures) (c .before .before .if1 .left) _ (c .before .accreditation .ensures) (c .if2 .taken)
 
 returns-3 : tie.Need-returns-3
-returns-3 c = head-none _ _ (c .before .before .before .word-at .ensures) (c .before .before .if1 .left) _ (c .before .word-at2 .ensures) (c .if2 .left)
+returns-3 c = head-none _ _ (c .before .before .before .side .ensures) (c .before .before .if1 .left) _ (c .before .accreditation .ensures) (c .if2 .left)
 
 pub head-number-spec : {M : Type 1} → statement M
 head-number-spec =
     tie.close
-    (tie.spec
-    (λ c κs. search needs)
-    returns
-    (λ c κs. search needs)
-    returns-2
-    returns-3)
+    (tie.spec (λ c κs. search needs) returns (λ c κs. search needs) returns-2 returns-3)

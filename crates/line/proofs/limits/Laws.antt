@@ -1,22 +1,19 @@
 -- Refusals 11 to 13, from what the code has read.
-use Prim.Native.Nat.{ℕ, _≤_, _<_}
+use Prim.Native.Nat.{ℕ, _+_, _*_, _≤_, _<_}
 use native.Mathlib.Omega.{arith}
 use mathlib.Core.Path.{_≡_, sym, _∙_}
 use mathlib.Core.List.{List}
 use borrow.Author.Tests.{lt-ltb, le-ltb, eq-eqb, ne-eqb}
 use Rattle.rules.specs.Fold.{first, five}
-use Rattle.rules.specs.Layout.{side, hedge, operatingTable, actualEntry}
+use Rattle.rules.specs.Layout.{word, side, hedge}
 use Rattle.rules.specs.Steps.{greatestBreak}
-use Rattle.rules.specs.Quantities.{pricingTotal}
+use Rattle.rules.specs.Quantities.{pricingTotal, tableTotal}
 use Rattle.rules.specs.Refusals.{totalFault, actualFault}
 use Rattle.laws.specs.Folds.{first-same, at-five, not-eq, not-ne, stops, passes, ends-at, none-at}
-use Rattle.line_bids.specs.declared.units.Quantity.{Quantity}
-use Rattle.line_bids.specs.declared.units.QuantityRead.{QuantityRead}
-use Rattle.line_bids.specs.Kinds.{quantityRead}
-use Rattle.line_quantities.specs.Sums.{tableTotal}
-use Rattle.line_quantities.proofs.sums.Totals.{table-total}
+use Rattle.units.specs.declared.QuantityRead.{QuantityRead}
+use Rattle.units.specs.Kinds.{quantityRead, quantityNumber}
 use Rattle.line.specs.Faults.{hedgeFault, totalsFault}
-use Rattle.line_bids.proofs.units.Reading.{quantity-within-is, quantity-above-is}
+use Rattle.units.proofs.Reading.{quantity-refused}
 
 -- refusal 11
 module _ (w : List ℕ) (m h : ℕ) (hedge-is : h ≡ hedge w) where
@@ -44,19 +41,15 @@ module _ (w : List ℕ) (m h : ℕ) (hedge-is : h ≡ hedge w) where
         (none-at 11 _ (rw (ne-eqb (side w) 1 (λ e. n (sd ∙ e)))))
 
 -- refusal 12, with M and the totals that were worked out
-pub totals-are : (w : List ℕ) (m : ℕ) (p o : List ℕ) → m ≡ greatestBreak w → p ≡ five (pricingTotal w) → o ≡ five (tableTotal (operatingTable w))
-    → first (totalsFault m p o) 5 ≡ first (totalFault w) 5
+pub totals-are : (t : List (List ℕ)) (w : List ℕ) (m : ℕ) (p o : List ℕ) → m ≡ greatestBreak w → p ≡ five (pricingTotal w) → o ≡ five (tableTotal t)
+    → first (totalsFault m p o) 5 ≡ first (totalFault t w) 5
 unfolding totalsFault totalFault
-totals-are w m p o e a b = first-same 5 (totalsFault m p o) (totalFault w) same
+totals-are t w m p o e a b = first-same 5 (totalsFault m p o) (totalFault t w) same
   where
-    same : (i : ℕ) → i < 5 → totalsFault m p o i ≡ totalFault w i
-    same i h = rw (e, a, b, at-five (pricingTotal w) 0 i h, at-five (tableTotal (operatingTable w)) 0 i h, table-total w i h)
+    same : (i : ℕ) → i < 5 → totalsFault m p o i ≡ totalFault t w i
+    same i h = rw (e, a, b, at-five (pricingTotal w) 0 i h, at-five (tableTotal t) 0 i h)
 
 -- refusal 13
-pub actual-above : (w : List ℕ) (i : ℕ) → QuantityRead.Above ≡ quantityRead (actualEntry w i) → 13 ≡ actualFault w i
+pub actual-read : (w : List ℕ) (i p x : ℕ) (r : QuantityRead) → p ≡ 4 * (160 + i) → r ≡ quantityRead (word w p) → x ≡ quantityNumber 13 r → x ≡ actualFault w i
 unfolding actualFault
-actual-above w i h = ends-at 13 _ (lt-ltb 200000000 (actualEntry w i) (quantity-above-is _ h))
-
-pub actual-within : (w : List ℕ) (i : ℕ) (q : Quantity) → QuantityRead.Within q ≡ quantityRead (actualEntry w i) → 0 ≡ actualFault w i
-unfolding actualFault
-actual-within w i q h = none-at 13 _ (le-ltb 200000000 (actualEntry w i) (quantity-within-is _ q h .0))
+actual-read w i p x r e h g = quantity-refused w p (4 * (160 + i)) e r h 13 x g

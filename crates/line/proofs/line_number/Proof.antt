@@ -11,6 +11,4 @@ returns c = c .lines-number .ensures ∙ one-line _ (c .before .before .pre)
 pub line-number-spec : {M : Type 1} → statement M
 line-number-spec =
     tie.close
-    (tie.spec
-    (λ c κs. search needs)
-    returns)
+    (tie.spec (λ c κs. search needs) returns)

@@ -41,8 +41,8 @@ head-number-requires c κs =
 loop-holds : tie.Need-loop-holds Inv-loop2 μ-loop2 Inv-loop μ-loop Inv-lines μ-lines
 loop-holds c = fold-begins _ _ _ refl
 
-count-of-requires : tie.Need-count-of-requires Inv-loop2 μ-loop2 Inv-loop μ-loop Inv-lines μ-lines
-count-of-requires c κs =
+bid-count-requires : tie.Need-bid-count-requires Inv-loop2 μ-loop2 Inv-loop μ-loop Inv-lines μ-lines
+bid-count-requires c κs =
     let at-start = c .before .before .before .before .before .before .before .before in
     (lent-length _ _ _ _ (omega arith) (at-start .pre .1), c .loop-test .taken)
 
@@ -63,12 +63,12 @@ loop2-again c =
 
 slots-number-requires : tie.Need-slots-number-requires Inv-loop2 μ-loop2 Inv-loop μ-loop Inv-lines μ-lines
 slots-number-requires c κs =
-    let after-count-of = c .before .before .before .before in
-    let at-start = after-count-of .before .before .before .before .before .before .before .before .before in (
+    let after-bid-count = c .before .before .before .before in
+    let at-start = after-bid-count .before .before .before .before .before .before .before .before .before in (
       lent-length _ _ _ _ (omega arith) (at-start .pre .1),
-      after-count-of .before .loop-test .taken,
+      after-bid-count .before .loop-test .taken,
       count-few _ _ (c .before .before .before .count-number .ensures) (c .before .before .if3 .left),
-      after-count-of .count-of .ensures,
+      after-bid-count .bid-count .ensures,
     )
 
 loop-again : tie.Need-loop-again Inv-loop2 μ-loop2 Inv-loop μ-loop Inv-lines μ-lines
@@ -77,25 +77,33 @@ loop-again c =
     let at-loop-test = at-loop2 .before .before .before .before in
     let fold-ends′ = fold-ends _ _ _ (at-loop2 .loop2 .inv .1) (at-loop2 .loop2 .inv .0)
     (c .before .before .loop2-test .left) in
-    let bid-slots′ = bid-slots _ _ _ (at-loop2 .before .before .before .count-of .ensures) _
+    let bid-slots′ = bid-slots _ _ _ (at-loop2 .before .before .before .bid-count .ensures) _
     (at-loop2 .before .before .count-number .ensures) (at-loop2 .before .if3 .left) fold-ends′ _
     (c .before .slots-number .ensures) in
     fold-goes _ _ _ _ (at-loop-test .before .loop .inv .1) (at-loop-test .loop-test .taken) bid-slots′ (c .if5 .left)
 
-limits-number-requires : tie.Need-limits-number-requires Inv-loop2 μ-loop2 Inv-loop μ-loop Inv-lines μ-lines
-limits-number-requires c κs =
+operating-table-requires : tie.Need-operating-table-requires Inv-loop2 μ-loop2 Inv-loop μ-loop Inv-lines μ-lines
+operating-table-requires c κs =
     let at-loop = c .before in
     let at-start = at-loop .before .before .before .before .before .before .before in
-    (lent-length _ _ _ _ (omega arith) (at-start .pre .1), all-passed _ _ _ (at-loop .loop .inv .1) (at-loop .loop .inv .0) (c .loop-test .left))
+    lent-length _ _ _ _ (omega arith) (at-start .pre .1)
+
+limits-number-requires : tie.Need-limits-number-requires Inv-loop2 μ-loop2 Inv-loop μ-loop Inv-lines μ-lines
+limits-number-requires c κs =
+    let at-loop = c .before .before in
+    let at-start = at-loop .before .before .before .before .before .before .before in (
+      lent-length _ _ _ _ (omega arith) (at-start .pre .1),
+      all-passed _ _ _ (at-loop .loop .inv .1) (at-loop .loop .inv .0) (c .before .loop-test .left),
+    )
 
 lines-again : tie.Need-lines-again Inv-loop2 μ-loop2 Inv-loop μ-loop Inv-lines μ-lines
 lines-again c =
-    let at-loop = c .before .before .before in
+    let at-loop = c .before .before .before .before in
     let at-lines = at-loop .before .before .before .before .before in
     let all-passed′ = all-passed _ _ _ (at-loop .loop .inv .1) (at-loop .loop .inv .0)
-    (c .before .before .loop-test .left) in
-    let line-limits′ = line-limits _ _ (at-loop .before .before .head-number .ensures) (at-loop .before .if2 .left) _
-    all-passed′ (c .before .limits-number .ensures) in
+    (c .before .before .before .loop-test .left) in
+    let line-limits′ = line-limits _ _ (at-loop .before .before .head-number .ensures) (at-loop .before .if2 .left) _ _
+    all-passed′ (c .before .before .operating-table .ensures) (c .before .limits-number .ensures) in
     fold-goes _ _ _ _ (at-lines .lines .inv .1) (omega arith) (lent-is _ _ _ _ line-limits′) (c .if6 .left)
 
 returns : tie.Need-returns Inv-loop2 μ-loop2 Inv-loop μ-loop Inv-lines μ-lines
@@ -111,7 +119,7 @@ returns-3 : tie.Need-returns-3 Inv-loop2 μ-loop2 Inv-loop μ-loop Inv-lines μ-
 returns-3 c =
     let at-loop = c .before .before .before .before in
     let at-lines = at-loop .before .before .before .before .before in
-    let bid-count′ = bid-count _ _ _ (c .before .before .count-of .ensures) _ (c .before .count-number .ensures)
+    let bid-count′ = bid-count _ _ _ (c .before .before .bid-count .ensures) _ (c .before .count-number .ensures)
     (c .if3 .taken) in
     let line-bid′ = line-bid _ _ (at-loop .before .before .head-number .ensures) (at-loop .before .if2 .left) _ _
     (at-loop .loop .inv .1) (c .before .before .before .loop-test .taken) bid-count′ (c .if3 .taken) in
@@ -124,7 +132,7 @@ returns-4 c =
     let at-lines = at-loop .before .before .before .before .before in
     let fold-stops′ = fold-stops _ _ _ _ (c .before .before .before .loop2 .inv .1) (c .before .before .loop2-test .taken)
     (c .before .break-number .ensures) (c .if4 .taken) in
-    let bid-break′ = bid-break _ _ _ (in-else3 .before .before .count-of .ensures) _
+    let bid-break′ = bid-break _ _ _ (in-else3 .before .before .bid-count .ensures) _
     (in-else3 .before .count-number .ensures) (in-else3 .if3 .left) _ fold-stops′ (c .if4 .taken) in
     let line-bid′ = line-bid _ _ (at-loop .before .before .head-number .ensures) (at-loop .before .if2 .left) _ _
     (at-loop .loop .inv .1) (in-else3 .before .before .before .loop-test .taken) bid-break′ (c .if4 .taken) in
@@ -137,7 +145,7 @@ returns-5 c =
     let at-lines = at-loop-test .before .before .before .before .before .before in
     let fold-ends′ = fold-ends _ _ _ (at-loop2 .loop2 .inv .1) (at-loop2 .loop2 .inv .0)
     (c .before .before .loop2-test .left) in
-    let bid-slots′ = bid-slots _ _ _ (at-loop2 .before .before .before .count-of .ensures) _
+    let bid-slots′ = bid-slots _ _ _ (at-loop2 .before .before .before .bid-count .ensures) _
     (at-loop2 .before .before .count-number .ensures) (at-loop2 .before .if3 .left) fold-ends′ _
     (c .before .slots-number .ensures) in
     let line-bid′ = line-bid _ _ (at-loop-test .before .before .before .head-number .ensures)
@@ -147,51 +155,20 @@ returns-5 c =
 
 returns-6 : tie.Need-returns-6 Inv-loop2 μ-loop2 Inv-loop μ-loop Inv-lines μ-lines
 returns-6 c =
-    let at-loop = c .before .before .before in
+    let at-loop = c .before .before .before .before in
     let at-lines = at-loop .before .before .before .before .before in
     let all-passed′ = all-passed _ _ _ (at-loop .loop .inv .1) (at-loop .loop .inv .0)
-    (c .before .before .loop-test .left) in
-    let line-limits′ = line-limits _ _ (at-loop .before .before .head-number .ensures) (at-loop .before .if2 .left) _
-    all-passed′ (c .before .limits-number .ensures) in
+    (c .before .before .before .loop-test .left) in
+    let line-limits′ = line-limits _ _ (at-loop .before .before .head-number .ensures) (at-loop .before .if2 .left) _ _
+    all-passed′ (c .before .before .operating-table .ensures) (c .before .limits-number .ensures) in
     fold-stops _ _ _ _ (at-lines .lines .inv .1) (omega arith) (lent-is _ _ _ _ line-limits′) (c .if6 .taken)
 
 pub lines-number-spec : {M : Type 1} → statement M
 lines-number-spec =
     tie.close
-    (tie.spec
-    Inv-loop2
-    μ-loop2
-    Inv-loop
-    μ-loop
-    Inv-lines
-    μ-lines
-    lines-holds
-    (λ c. search needs)
-    (λ c. search needs)
-    (λ c. search needs)
-    (λ c. search needs)
-    (λ c. search needs)
-    (λ c. search needs)
-    head-number-requires
-    loop-holds
-    count-of-requires
-    (λ c κs. search needs)
-    loop2-holds
-    break-number-requires
-    (λ c. search needs)
-    (λ c. search needs)
-    loop2-again
-    slots-number-requires
-    (λ c. search needs)
-    (λ c. search needs)
-    loop-again
-    limits-number-requires
-    (λ c. search needs)
-    (λ c. search needs)
-    lines-again
-    returns
-    returns-2
-    returns-3
-    returns-4
-    returns-5
-    returns-6)
+    (tie.spec Inv-loop2 μ-loop2 Inv-loop μ-loop Inv-lines μ-lines lines-holds (λ c. search needs) (λ c. search needs)
+    (λ c. search needs) (λ c. search needs) (λ c. search needs) (λ c. search needs) head-number-requires loop-holds
+    bid-count-requires (λ c κs. search needs) loop2-holds break-number-requires (λ c. search needs)
+    (λ c. search needs) loop2-again slots-number-requires (λ c. search needs) (λ c. search needs) loop-again
+    operating-table-requires limits-number-requires (λ c. search needs) (λ c. search needs) lines-again returns
+    returns-2 returns-3 returns-4 returns-5 returns-6)

@@ -1,6 +1,7 @@
 -- Refusals 7 and 8, from what the code has read.
 use Prim.Native.Nat.{ℕ, _≤_, _<_}
-use mathlib.Core.Path.{_≡_, refl, sym, _∙_, subst}
+use native.Mathlib.Omega.{arith}
+use mathlib.Core.Path.{_≡_, sym, _∙_}
 use mathlib.Core.List.{List}
 use mathlib.Core.Bool.{Bool, true, false}
 use lib.Dec.{ltb, leb}
@@ -9,36 +10,34 @@ use Rattle.rules.specs.Fold.{refuse, _orElse_, before}
 use Rattle.rules.specs.Layout.{bidBreak}
 use Rattle.rules.specs.Refusals.{breakFault}
 use Rattle.laws.specs.Folds.{refuse-zero, orElse-both, stops, passes, ends-at, none-at}
-use Rattle.line_bids.specs.declared.units.Quantity.{Quantity}
-use Rattle.line_bids.specs.declared.units.QuantityRead.{QuantityRead}
-use Rattle.line_bids.specs.Kinds.{quantityRead}
-use Rattle.line_bids.proofs.units.Reading.{quantity-within-is, quantity-above-is}
 use Rattle.line_bids.specs.Counts.{countFault}
 
--- refusal 8 at one step, with the break before it
-module _ (w : List ℕ) (s j e : ℕ) (earlier : e ≡ before (bidBreak w s) j) where
-  pub break-above : QuantityRead.Above ≡ quantityRead (bidBreak w s j) → 8 ≡ breakFault w s j
+-- refusal 8 at one step: the limit, then the break before it
+either : (l t : Bool) (x : ℕ) → x ≡ refuse 8 t → (x ≡ 0 → ⊥) → x ≡ refuse 8 l orElse refuse 8 t
+unfolding refuse _orElse_
+either true true x e n = e
+either false true x e n = e
+either l false x e n = absurd (n e)
+
+module _ (w : List ℕ) (s j x : ℕ) (limit : x ≡ refuse 8 (ltb 200000000 (bidBreak w s j))) where
+  pub break-above : (x ≡ 0 → ⊥) → x ≡ breakFault w s j
   unfolding breakFault
-  break-above h = above (leb (bidBreak w s j) (before (bidBreak w s) j)) (lt-ltb _ _ (quantity-above-is (bidBreak w s j) h))
-    where
-      above : (t : Bool) → ltb 200000000 (bidBreak w s j) ≡ true → 8 ≡ refuse 8 t orElse refuse 8 (ltb 200000000 (bidBreak w s j))
-      above true g = stops 7 true _ refl
-      above false g = passes 8 false _ _ refl (ends-at 8 _ g)
+  break-above n = either (leb (bidBreak w s j) (before (bidBreak w s) j)) (ltb 200000000 (bidBreak w s j)) x limit n
 
-  module _ (q : Quantity) (read : QuantityRead.Within q ≡ quantityRead (bidBreak w s j)) where
-    pub break-low : q .mj ≤ e → 8 ≡ breakFault w s j
-    unfolding breakFault
-    break-low h =
-        let g = quantity-within-is (bidBreak w s j) q read in
-        let l : bidBreak w s j ≤ before (bidBreak w s) j = subst (λ (z : ℕ). bidBreak w s j ≤ z) earlier (subst (λ (z : ℕ). z ≤ e) (g .1) h) in
-        stops 7 _ _ (le-leb _ _ l)
+  module _ (z : x ≡ 0) where
+    pub break-within : bidBreak w s j ≤ 200000000
+    break-within = ltb-false 200000000 (bidBreak w s j) (refuse-zero 7 _ (sym limit ∙ z))
 
-    pub break-none : e < q .mj → 0 ≡ breakFault w s j
-    unfolding breakFault
-    break-none h =
-        let g = quantity-within-is (bidBreak w s j) q read in
-        let l : before (bidBreak w s) j < bidBreak w s j = subst (λ (z : ℕ). z < bidBreak w s j) earlier (subst (λ (z : ℕ). e < z) (g .1) h) in
-        passes 8 _ _ _ (lt-leb _ _ l) (none-at 8 _ (le-ltb _ _ (g .0)))
+    module _ (v e : ℕ) (value : v ≡ bidBreak w s j) (earlier : e ≡ before (bidBreak w s) j) where
+      pub break-low : v ≤ e → 8 ≡ breakFault w s j
+      unfolding breakFault
+      break-low h = stops 7 _ _ (le-leb (bidBreak w s j) (before (bidBreak w s) j) (omega arith))
+
+      pub break-none : e < v → 0 ≡ breakFault w s j
+      unfolding breakFault
+      break-none h =
+          passes 8 _ _ _ (lt-leb (bidBreak w s j) (before (bidBreak w s) j) (omega arith))
+          (none-at 8 _ (le-ltb 200000000 (bidBreak w s j) break-within))
 
 -- refusal 7
 pub count-empty : (n : ℕ) → n ≡ 0 → 7 ≡ countFault n

@@ -1,18 +1,15 @@
 -- Refusals 9 and 10, from what the code has read.
-use Prim.Native.Nat.{ℕ, zero, suc, _-_}
+use Prim.Native.Nat.{ℕ, zero, suc, _-_, _≤_}
 use native.Mathlib.Omega.{arith}
 use mathlib.Core.Path.{_≡_, refl, sym, _∙_, ap}
 use mathlib.Core.List.{List}
 use mathlib.Core.Bool.{true, false}
-use borrow.Author.Tests.{lt-ltb, le-ltb}
-use Rattle.rules.specs.Fold.{first}
+use lib.Dec.{ltb}
+use borrow.Author.Tests.{ltb-false}
+use Rattle.rules.specs.Fold.{refuse, first}
 use Rattle.rules.specs.Layout.{side, bidCount, bidPrice}
 use Rattle.rules.specs.Refusals.{outOfOrder, orderFault, priceFault, unusedFault}
-use Rattle.laws.specs.Folds.{stops, passes, ends-at, none-at, part-stops, part-passes}
-use Rattle.line_bids.specs.declared.units.Price.{Price}
-use Rattle.line_bids.specs.declared.units.PriceRead.{PriceRead}
-use Rattle.line_bids.specs.Kinds.{priceRead}
-use Rattle.line_bids.proofs.units.Reading.{price-within-is, price-above-is}
+use Rattle.laws.specs.Folds.{refuse-zero, ends-at, none-at, part-stops, part-passes}
 use Rattle.line_bids.specs.Slots.{slotsFault}
 
 -- refusal 9 at one step
@@ -40,13 +37,18 @@ unfolding orderFault
 order-good w s zero sd p q n a b c e = absurd (n refl)
 order-good w s (suc j) sd p q n a b c e = none-at 9 _ (sym (e ∙ order-there w s j sd p q a b c))
 
-pub price-fault-above : (w : List ℕ) (s j : ℕ) → PriceRead.Above ≡ priceRead (bidPrice w s j) → 9 ≡ priceFault w s j
-unfolding priceFault
-price-fault-above w s j h = stops 8 _ _ (lt-ltb 10000000 (bidPrice w s j) (price-above-is _ h))
+module _ (w : List ℕ) (s j x : ℕ) (limit : x ≡ refuse 9 (ltb 10000000 (bidPrice w s j))) where
+  pub price-above : (x ≡ 0 → ⊥) → x ≡ priceFault w s j
+  unfolding priceFault
+  price-above n = part-stops _ _ _ limit n
 
-pub price-fault-within : (w : List ℕ) (s j : ℕ) (q : Price) (x : ℕ) → PriceRead.Within q ≡ priceRead (bidPrice w s j) → x ≡ orderFault w s j → x ≡ priceFault w s j
-unfolding priceFault
-price-fault-within w s j q x h e = passes 9 _ _ _ (le-ltb 10000000 (bidPrice w s j) (price-within-is _ q h)) e
+  module _ (z : x ≡ 0) where
+    pub price-within : bidPrice w s j ≤ 10000000
+    price-within = ltb-false 10000000 (bidPrice w s j) (refuse-zero 8 _ (sym limit ∙ z))
+
+    pub price-ordered : (y : ℕ) → y ≡ orderFault w s j → y ≡ priceFault w s j
+    unfolding priceFault
+    price-ordered y e = part-passes _ _ _ x limit z e
 
 -- prices, then unused slots
 module _ (w : List ℕ) (s n : ℕ) (count : n ≡ bidCount w s) where

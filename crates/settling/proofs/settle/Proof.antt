@@ -31,45 +31,43 @@ count-most c =
     accepted-day (now (start c .args .day)) (sym (c .before .before .day-number .ensures) ∙ c .before .if1 .left)
     .header .count-most
 
-mul-if2 : tie.Need-mul-if2
-mul-if2 c = record { fits = omega (arith, c .line-count .ensures, count-most c) }
-
-add-if2 : tie.Need-add-if2
-add-if2 c = record { fits = omega (arith, c .line-count .ensures, count-most c) }
+entry-at-requires : tie.Need-entry-at-requires
+entry-at-requires c κs = omega (arith, c .line-count .ensures, count-most c)
 
 returns-2 : tie.Need-returns-2
 returns-2 c =
-    let at-start = c .before .before .before .before .before .before in
-    book-short (now (at-start .args .day)) _ _ (c .before .before .before .day-number .ensures) (c .before .before .if1 .left)
-    (omega (arith, c .if2 .taken, c .before .line-count .ensures))
+    let after-day-number = c .before .before .before .before in
+    let at-start = after-day-number .before .before .before in
+    book-short (now (at-start .args .day)) _ _ (after-day-number .day-number .ensures)
+    (c .before .before .before .if1 .left)
+    (omega (arith, c .if2 .taken, c .before .before .line-count .ensures, c .before .entry-at .ensures))
 
 put-book-requires : tie.Need-put-book-requires
 put-book-requires c κs =
-    let after-day-number = c .before .before .before .before in
+    let in-else1 = c .before .before .before .before in
+    let after-day-number = in-else1 .before in
     let at-start = after-day-number .before .before .before in (
-      accepted-day (now (at-start .args .day)) (sym (after-day-number .day-number .ensures) ∙ c .before .before .before .if1 .left),
-      omega (arith, c .before .if2 .left, c .before .before .line-count .ensures),
+      accepted-day (now (at-start .args .day)) (sym (after-day-number .day-number .ensures) ∙ in-else1 .if1 .left),
+      omega (arith, c .before .if2 .left, c .before .before .before .line-count .ensures, c .before .before .entry-at .ensures),
     )
 
 returns-3 : tie.Need-returns-3
 returns-3 c =
     let after-put-book = c .before .before in
-    let in-else1 = after-put-book .before .before .before .before in
-    let at-start = in-else1 .before .before .before .before in
-    book-put (now (at-start .args .day)) _ _ _ _ (in-else1 .before .day-number .ensures) (in-else1 .if1 .left)
-    (omega (arith, after-put-book .before .before .if2 .left, after-put-book .before .before .before .line-count .ensures))
-    (after-put-book .put-book .ensures .0) (after-put-book .put-book .ensures .1)
+    let after-line-count = after-put-book .before .before .before .before in
+    let at-start = after-line-count .before .before .before .before .before in
+    book-put (now (at-start .args .day)) _ _ _ _ (after-line-count .before .before .day-number .ensures)
+    (after-line-count .before .if1 .left)
+    (omega (
+      arith,
+      after-put-book .before .before .if2 .left,
+      after-line-count .line-count .ensures,
+      after-put-book .before .before .before .entry-at .ensures,
+    )) (after-put-book .put-book .ensures .0)
+    (after-put-book .put-book .ensures .1)
 
 pub settle-spec : {M : Type 1} → statement M
 settle-spec =
     tie.close
-    (tie.spec
-    (λ c κs. search needs)
-    returns
-    line-count-requires
-    mul-if2
-    add-if2
-    returns-2
-    put-book-requires
-    (λ c. search needs)
-    returns-3)
+    (tie.spec (λ c κs. search needs) returns line-count-requires entry-at-requires returns-2 put-book-requires
+    (λ c. search needs) returns-3)

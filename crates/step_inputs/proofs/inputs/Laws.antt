@@ -7,75 +7,82 @@ use lib.ListN.{getD}
 use Rattle.rules.specs.Fold.{five, at, sumTo}
 use Rattle.rules.specs.Layout as layout
 use Rattle.rules.specs.Layout.{operatingTable, actualEntry}
-use Rattle.rules.specs.Steps.{greatestBreak}
-use Rattle.rules.specs.Quantities.{pricingTotal, operatingTotal, effectiveActual, actualIn}
-use Rattle.rules.specs.Refusals.{lineFault}
+use Rattle.rules.specs.Steps.{greatestBreak, upperEnd, lowerEnd}
+use Rattle.rules.specs.Quantities.{pricingTotal, tableTotal, tableActual, actualIn}
+use Rattle.rules.specs.Refusals.{lineFaultWith}
+use Rattle.rules.specs.Cutting.{cutOf}
+use Rattle.rules.specs.Days.{stepOf}
 use Rattle.rules.specs.declared.Step.{Step}
-use Rattle.laws.specs.Folds.{same-five, at-five}
-use Rattle.laws.specs.Accepted.{accepted-line}
-use Rattle.line_quantities.specs.Sums.{tableTotal, lesserSum, lesserAt}
-use Rattle.line_quantities.proofs.sums.Totals.{table-total}
+use Rattle.laws.specs.Folds.{at-five}
+use Rattle.laws.specs.Accepted.{accepted-with}
+use Rattle.line_quantities.specs.Sums.{lesserSum, lesserAt}
+use Rattle.cutter.specs.Arrays.{priceIn, flagIn}
 use Rattle.cutter.specs.Ends.{most-limit}
 use Rattle.step_inputs.specs.declared.inputs.Market.{Market}
 use Rattle.step_inputs.specs.declared.inputs.LineTotals.{LineTotals}
-use Rattle.step_inputs.specs.Inputs.{wordIn, marketOf, totalsOf, stepWith}
+use Rattle.step_inputs.specs.Inputs.{marketOf, totalsOf, stepWith, StepReady}
 use Rattle.step_inputs.specs.Terms.{cappedIn, paidIn}
-use Rattle.step_inputs.specs.Steps.{actual-most}
+use Rattle.step_inputs.specs.Steps.{end-is, step-is, actual-most}
 
-pub market-is : (d p m : List ℕ) (c k : ℕ) → p ≡ five (wordIn d 16) → m ≡ five (wordIn d 36) → c ≡ layout.priceCap d → k ≡ layout.clawback d
+pub market-is : (d p m : List ℕ) (c k : ℕ) → p ≡ five (layout.marketPrice d) → m ≡ five (layout.capMark d) → c ≡ layout.priceCap d → k ≡ layout.clawback d
     → _≡_ {A = Market} (record { price = p; mark = m; cap = c; clawback = k }) (marketOf d)
-unfolding marketOf wordIn
+unfolding marketOf
 market-is d p m c k a b e f = rw (a, b, e, f)
 
--- totals of an accepted line fit a word
-pub row-narrow : (w : List ℕ) → lineFault w ≡ 0 → (f : ℕ → ℕ) (row : List ℕ) → ((s : ℕ) → s < 5 → f s ≤ greatestBreak w) → row ≡ five f
-    → (s : ℕ) → s < 5 → at row s < 2 ^ 32
-row-narrow w z f row h e s l =
-    let m = most-limit w (accepted-line w z) in
-    let g = h s l in
-    subst (λ (r : List ℕ). at r s < 2 ^ 32) (sym e) (subst (λ (v : ℕ). v < 2 ^ 32) (sym (at-five f 0 s l)) (omega arith))
+-- totals of a line that is accepted with the table t fit a word
+module _ (t : List (List ℕ)) (w : List ℕ) (z : lineFaultWith t w ≡ 0) where
+  row-narrow : (f : ℕ → ℕ) (row : List ℕ) → ((s : ℕ) → s < 5 → f s ≤ greatestBreak w) → row ≡ five f → (s : ℕ) → s < 5 → at row s < 2 ^ 32
+  row-narrow f row h e s l =
+      let m = most-limit w (accepted-with t w z) in
+      let g = h s l in
+      subst (λ (r : List ℕ). at r s < 2 ^ 32) (sym e) (subst (λ (v : ℕ). v < 2 ^ 32) (sym (at-five f 0 s l)) (omega arith))
 
-module _ (w : List ℕ) (z : lineFault w ≡ 0) where
   pub pricing-narrow : (row : List ℕ) → row ≡ five (pricingTotal w) → (s : ℕ) → s < 5 → at row s < 2 ^ 32
-  pricing-narrow row e = row-narrow w z (pricingTotal w) row (accepted-line w z .pricing-most) e
+  pricing-narrow row e = row-narrow (pricingTotal w) row (accepted-with t w z .pricing-most) e
 
-  operating-row-is : (t : List (List ℕ)) (row : List ℕ) → t ≡ operatingTable w → row ≡ five (tableTotal t) → row ≡ five (operatingTotal w)
-  operating-row-is t row e h =
-      h ∙ ap (λ (x : List (List ℕ)). five (tableTotal x)) e
-      ∙ same-five (table-total w 0 (omega arith)) (table-total w 1 (omega arith)) (table-total w 2 (omega arith)) (table-total w 3 (omega arith)) (table-total w 4 (omega arith))
-
-  pub operating-narrow : (t : List (List ℕ)) (row : List ℕ) → t ≡ operatingTable w → row ≡ five (tableTotal t) → (s : ℕ) → s < 5 → at row s < 2 ^ 32
-  operating-narrow t row e h = row-narrow w z (operatingTotal w) row (accepted-line w z .operating-most) (operating-row-is t row e h)
+  pub operating-narrow : (row : List ℕ) → row ≡ five (tableTotal t) → (s : ℕ) → s < 5 → at row s < 2 ^ 32
+  operating-narrow row e = row-narrow (tableTotal t) row (accepted-with t w z .operating-most) e
 
   -- the effective actual from the table's last row
-  pub actual-is : (t : List (List ℕ)) (a : List ℕ) (x : ℕ) → t ≡ operatingTable w → a ≡ five (actualEntry w) → x ≡ lesserSum (getD t 4 []) a → x ≡ effectiveActual w
-  unfolding lesserSum lesserAt effectiveActual actualIn sumTo
-  actual-is t a x e h g = g ∙ rw (e, h)
+  pub actual-is : (a : List ℕ) (x : ℕ) → a ≡ five (actualEntry w) → x ≡ lesserSum (getD t 4 []) a → x ≡ tableActual t w
+  unfolding lesserSum lesserAt tableActual actualIn sumTo
+  actual-is a x h g = g ∙ rw h
 
-  pub actual-narrow : (x : ℕ) → x ≡ effectiveActual w → x < 2 ^ 32
+  pub actual-narrow : (x : ℕ) → x ≡ tableActual t w → x < 2 ^ 32
   actual-narrow x e =
-      let m = most-limit w (accepted-line w z) in
-      let g = accepted-line w z .operating-most 4 (omega arith) in
-      let b = actual-most w in
+      let m = most-limit w (accepted-with t w z) in
+      let g = accepted-with t w z .operating-most 4 (omega arith) in
+      let b = actual-most t w in
       omega arith
 
   narrowed : (f : ℕ → ℕ) (q p : List ℕ) → q ≡ five (at p) → p ≡ five f → q ≡ five f
   narrowed f q p e h = e ∙ ap (λ (x : List ℕ). five (at x)) h
 
-  pub totals-are : (sd ac hg v : ℕ) (t : List (List ℕ)) (p p′ o o′ : List ℕ)
+  pub totals-are : (sd ac hg v : ℕ) (p p′ o o′ : List ℕ)
       → sd ≡ layout.side w → ac ≡ layout.accreditation w → hg ≡ layout.hedge w
-      → p ≡ five (pricingTotal w) → p′ ≡ five (at p)
-      → t ≡ operatingTable w → o ≡ five (tableTotal t) → o′ ≡ five (at o)
-      → v ≡ effectiveActual w
-      → _≡_ {A = LineTotals} (record { side = sd; accreditation = ac; hedge = hg; pricing = p′; operating = o′; actual = v }) (totalsOf w)
+      → p ≡ five (pricingTotal w) → p′ ≡ five (at p) → o ≡ five (tableTotal t) → o′ ≡ five (at o) → v ≡ tableActual t w
+      → _≡_ {A = LineTotals} (record { side = sd; accreditation = ac; hedge = hg; pricing = p′; operating = o′; actual = v }) (totalsOf t w)
   unfolding totalsOf
-  totals-are sd ac hg v t p p′ o o′ a b c d e f g h i =
+  totals-are sd ac hg v p p′ o o′ a b c d e f g h =
       let pe : p′ ≡ five (pricingTotal w) = narrowed (pricingTotal w) p′ p e d in
-      let oe : o′ ≡ five (operatingTotal w) = narrowed (operatingTotal w) o′ o h (operating-row-is t o f g) in
-      rw (a, b, c, pe, oe, i)
+      let oe : o′ ≡ five (tableTotal t) = narrowed (tableTotal t) o′ o g f in
+      rw (a, b, c, pe, oe, h)
 
 pub step-from-is : (m : Market) (t : LineTotals) (l u : ℕ) (p f q r : List ℕ)
     → q ≡ five (cappedIn (m .mark) (m .cap) p) → r ≡ five (paidIn (t .accreditation) (t .hedge) u)
     → _≡_ {A = Step} (record { side = t .side; lower = l; upper = u; price = q; flag = f; market = m .price; paid = r; pricing = t .pricing; operating = t .operating; actual = t .actual }) (stepWith m t l u p f)
 unfolding stepWith
 step-from-is m t l u p f q r a b = rw (a, b)
+
+-- the step that is put together from what the cutter answers for its line
+pub step-ready : (d : List ℕ) (k : ℕ) (m : Market) (t : LineTotals) (es ps fs : List ℕ) (lo j : ℕ) → StepReady d k m t es ps fs lo j
+    → (up : ℕ) (p f : List ℕ) (x : Step) → up ≡ getD es j 0 → p ≡ five (priceIn ps j) → f ≡ five (flagIn fs j) → x ≡ stepWith m t lo up p f → x ≡ stepOf d k j
+step-ready d k m t es ps fs lo j r up p f x ue pe fe xe =
+    let w = layout.lineAt d k in
+    let ue′ : up ≡ upperEnd w j = ue ∙ ap (λ (l : List ℕ). getD l j 0) (r .ends) ∙ end-is w (r .accepted) j (r .step) in
+    let pe′ : p ≡ five (priceIn (cutOf w .prices) j) = pe ∙ ap (λ (l : List ℕ). five (priceIn l j)) (r .prices) in
+    let fe′ : f ≡ five (flagIn (cutOf w .flags) j) = fe ∙ ap (λ (l : List ℕ). five (flagIn l j)) (r .flags) in
+    let same : stepWith m t lo up p f
+    ≡ stepWith (marketOf d) (totalsOf (operatingTable w) w) (lowerEnd w j) (upperEnd w j) (five (priceIn (cutOf w .prices) j)) (five (flagIn (cutOf w .flags) j)) =
+    rw (r .market, r .totals, r .lower, ue′, pe′, fe′) in
+    xe ∙ same ∙ step-is d k j (r .accepted) (r .step)

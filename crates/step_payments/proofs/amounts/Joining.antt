@@ -20,7 +20,8 @@ use Rattle.step_matching.specs.Balance.{matched-out}
 use Rattle.step_payments.specs.Sizes.{Sized, rate-most, revisedRate-most, fall-most, givenBack-most}
 use Rattle.step_payments.specs.Parts.{changeOn, initial-plus, initial-minus, revised-plus, revised-taken, modified-plus, modified-minus}
 use Rattle.step_payments.specs.Kinds.{revised-first, modified-first}
-use Rattle.step_payments.specs.Amounts.{onlyPaid, productIn, givenAt, plusOf, minusOf}
+use Rattle.step_payments.specs.Amounts.{givenAt, plusOf, minusOf}
+use Rattle.step_changes.specs.Changes.{onlyPaid, productIn}
 
 -- a sum whose terms from s on are 0
 sum-cut : (s n : ℕ) (f : ℕ → ℕ) → ((r : ℕ) → s ≤ r → f r ≡ 0) → s ≤ n → sumTo n f ≡ sumTo s f

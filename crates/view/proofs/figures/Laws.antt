@@ -9,7 +9,8 @@ use Rattle.rules.specs.Layout.{lineAt, side, clawback}
 use Rattle.rules.specs.Steps.{ends, lowerEnd}
 use Rattle.rules.specs.Cutting.{cutOf}
 use Rattle.rules.specs.Matching.{tenMatches}
-use Rattle.rules.specs.Payments.{stepOf, operatingOn, pricingOn, actualOn, aginoOn, msiqOn, onStep, initial, revised, modified}
+use Rattle.rules.specs.Payments.{operatingOn, pricingOn, actualOn, aginoOn, msiqOn, onStep, initial, revised, modified}
+use Rattle.rules.specs.Days.{stepOf, settledDay}
 use Rattle.rules.specs.Viewing.{viewOf}
 use Rattle.rules.specs.declared.Step.{Step}
 use Rattle.rules.specs.declared.View.{View}
@@ -80,10 +81,10 @@ pub lower-is : (d v : List ℕ) (k j lo : ℕ) (c : Cut) → v ≡ lineAt d k �
 lower-is d v k j lo c e h g = g ∙ ap (λ (z : Cut). getD (0 ∷ z .ends) j 0) (h ∙ ap cutOf e) ∙ cut-lower (lineAt d k) j
 
 -- the pool of the step's side
-pub pool-there : (d : List ℕ) (k j : ℕ) (x : Step) (p : SidePool) → x ≡ stepOf d k j → PoolFor d (x .side) p → PoolFor d (side (lineAt d k)) p
+pub pool-there : (d : List ℕ) (k j : ℕ) (x : Step) (p : SidePool) → x ≡ stepOf d k j → PoolFor (settledDay d) (x .side) p → PoolFor (settledDay d) (side (lineAt d k)) p
 unfolding stepOf
-pool-there d k j x p e h = subst (λ (s : ℕ). PoolFor d s p) (ap (λ (z : Step). z .side) e) h
+pool-there d k j x p e h = subst (λ (s : ℕ). PoolFor (settledDay d) s p) (ap (λ (z : Step). z .side) e) h
 
 -- the figures of step j of line k
-pub figures-there : (d : List ℕ) (k j : ℕ) (x : Step) (cl : ℕ) (p : SidePool) (v : View) → x ≡ stepOf d k j → cl ≡ clawback d → PoolFor d (side (lineAt d k)) p → v ≡ viewFrom x cl p → v ≡ viewOf d k j
+pub figures-there : (d : List ℕ) (k j : ℕ) (x : Step) (cl : ℕ) (p : SidePool) (v : View) → x ≡ stepOf d k j → cl ≡ clawback d → PoolFor (settledDay d) (side (lineAt d k)) p → v ≡ viewFrom x cl p → v ≡ viewOf d k j
 figures-there d k j x cl p v e c h g = g ∙ (λ i. viewFrom (e i) (c i) p) ∙ view-is d k j p h

@@ -11,9 +11,4 @@ returns-2 c = lower-there (now (c .before .before .args .ends)) _ (c .before .if
 pub lower-end-spec : {M : Type 1} → statement M
 lower-end-spec =
     tie.close
-    (tie.spec
-    (λ c. search needs)
-    (λ c. search needs)
-    (λ c. search needs)
-    (λ c. search needs)
-    returns-2)
+    (tie.spec (λ c. search needs) (λ c. search needs) (λ c. search needs) (λ c. search needs) returns-2)

@@ -1,13 +1,12 @@
 -- `view::view` meets its contract.
 use Prim.Native.Nat.{_≤_, _<_}
-use mathlib.Core.Path.{_≡_, refl, sym, _∙_}
+use mathlib.Core.Path.{sym, _∙_}
 use denote.Ref.{now}
 use native.Mathlib.Omega.{arith}
 use borrow.Author.Needs.{needs}
 use Rattle.rules.specs.Layout.{lineCount}
-use Rattle.rules.specs.Payments.{stepOf}
 use Rattle.laws.specs.Accepted.{AcceptedDay, accepted-day}
-use Rattle.day_pools.proofs.Laws.{line-lies, lent-length, lent-accepted, lent-line, count-is, count-few, step-built, step-sized, step-payable, market-claw}
+use Rattle.day_pools.proofs.Laws.{line-lies, lent-length, lent-with, lent-line, count-is, count-few, step-there, step-sized, step-payable, market-claw}
 use Rattle.view.specs.Figures.{view-refused, fault-day, fault-line, fault-step, view-whole}
 use Rattle.view.proofs.figures.Laws.{lower-is, pool-there, figures-there}
 use Rattle.view.proofs.view.Statement.{statement}
@@ -21,10 +20,9 @@ abbrev from-else2 : tie.Else2 → tie.Start
 from-else2 c = from-else1 (c .before .before)
 
 abbrev from-else3 : tie.Else3 → tie.Start
-from-else3 c = let in-else2 = c .before .before .before .before in from-else2 in-else2
-
-abbrev from-step-of : tie.After-step-of → tie.Start
-from-step-of c = let in-else3 = c .before .before .before .before .before .before .before .before .before .before .before in from-else3 in-else3
+from-else3 c =
+    let in-else2 = c .before .before .before .before in
+    from-else2 in-else2
 
 -- the day's number is 0
 accepted : (c : tie.Else1) → AcceptedDay (now (from-else1 c .args .day))
@@ -45,27 +43,6 @@ few-steps c =
 -- the line has the step
 few : (c : tie.Else3) → from-else3 c .args .step < 56
 few c = omega (arith, few-steps c, c .if3 .left)
-
--- the step is put together
-built : (c : tie.After-step-of)
-    → c .step-of .result ≡ stepOf (now (from-step-of c .args .day)) (from-step-of c .args .line) (from-step-of c .args .step)
-built c =
-    let after-lower-end = c .before .before .before .before in
-    let after-market-of = after-lower-end .before .before .before in
-    let in-else3 = after-market-of .before .before .before .before in
-    let after-steps = in-else3 .before .before in
-    let in-else2 = after-steps .before .before in
-    let at-start = from-else2 in-else2 in
-    let day = now (at-start .args .day) in
-    let line = at-start .args .line in
-    let step = at-start .args .step in
-    let line-of-ensures = after-steps .before .line-of .ensures in
-    let lower-is′ = lower-is day _ line step _ _ line-of-ensures (after-steps .steps .ensures)
-    (after-lower-end .lower-end .ensures) in
-    step-built day (accepted (in-else2 .before .before)) line (below in-else2) _ line-of-ensures _ (after-steps .steps .ensures) step
-    (in-else3 .if3 .left) _ _ _ _ _ _ _ (after-market-of .market-of .ensures)
-    (after-lower-end .before .before .totals-of .ensures) lower-is′ refl (c .before .before .price-row .ensures)
-    (c .before .flag-row .ensures) (c .step-of .ensures)
 
 returns : tie.Need-returns
 returns c =
@@ -102,8 +79,8 @@ line-of-requires c κs =
 steps-requires : tie.Need-steps-requires
 steps-requires c κs =
     let at-start = c .before .before .before .before .before .before in
-    lent-line (now (at-start .args .day)) (accepted (c .before .before .before)) (at-start .args .line) (below (c .before)) _
-    (c .line-of .ensures)
+    lent-line (now (at-start .args .day)) (accepted (c .before .before .before)) (at-start .args .line) (below (c .before))
+    _ (c .line-of .ensures)
 
 returns-3 : tie.Need-returns-3
 returns-3 c =
@@ -126,36 +103,50 @@ market-of-requires c κs =
     let in-else1 = c .before .before .before .before .before .before .before .before .before in
     omega (arith, accepted in-else1 .header .length-least)
 
-totals-of-requires : tie.Need-totals-of-requires
-totals-of-requires c κs =
+operating-table-requires : tie.Need-operating-table-requires
+operating-table-requires c κs =
     let after-line-of = c .before .before .before .before .before .before .before in
     let in-else2 = after-line-of .before in
-    let at-start = in-else2 .before .before .before .before .before in
+    let in-else1 = in-else2 .before .before in
+    let at-start = from-else1 in-else1 in
+    lent-length (now (at-start .args .day)) (accepted in-else1) (at-start .args .line) (below in-else2) _
+    (after-line-of .line-of .ensures)
+
+totals-of-requires : tie.Need-totals-of-requires
+totals-of-requires c κs =
+    let after-line-of = c .before .before .before .before .before .before .before .before in
+    let in-else2 = after-line-of .before in
+    let in-else1 = in-else2 .before .before in
+    let at-start = in-else1 .before .before .before in
     let day = now (at-start .args .day) in
-    let line = at-start .args .line in (
-      lent-length day (accepted (in-else2 .before .before)) line (below in-else2) _ (after-line-of .line-of .ensures),
-      lent-accepted day (accepted (in-else2 .before .before)) line (below in-else2) _ (after-line-of .line-of .ensures),
-    )
+    let line = at-start .args .line in
+    let lent-with′ = lent-with day (accepted in-else1) line (below in-else2) _ (after-line-of .line-of .ensures) _
+    (c .operating-table .ensures) in
+    (lent-length day (accepted in-else1) line (below in-else2) _ (after-line-of .line-of .ensures), lent-with′)
 
 lower-end-requires : tie.Need-lower-end-requires
 lower-end-requires c κs =
-    let in-else3 = c .before .before .before .before .before .before in
-    few in-else3
-
-array-read-step-of : tie.Need-array-read-step-of
-array-read-step-of c =
-    let in-else3 = c .before .before .before .before .before .before .before in
-    omega (arith, few in-else3)
-
-price-row-requires : tie.Need-price-row-requires
-price-row-requires c κs =
-    let in-else3 = c .before .before .before .before .before .before .before .before in
-    few in-else3
-
-flag-row-requires : tie.Need-flag-row-requires
-flag-row-requires c κs =
     let in-else3 = c .before .before .before .before .before .before .before .before .before in
     few in-else3
+
+step-at-requires : tie.Need-step-at-requires
+step-at-requires c κs =
+    let after-market-of = c .before .before .before .before .before .before in
+    let in-else3 = after-market-of .before .before .before .before in
+    let after-steps = in-else3 .before .before in
+    let in-else2 = after-steps .before .before in
+    let in-else1 = in-else2 .before .before in
+    let at-start = from-else1 in-else1 in
+    let day = now (at-start .args .day) in
+    let line = at-start .args .line in
+    let step = at-start .args .step in
+    let line-of-ensures = after-steps .before .line-of .ensures in
+    let after-operating-table = c .before .before .before .before .before in
+    let after-totals-of = c .before .before .before .before in
+    let lower-is′ = lower-is day _ line step _ _ line-of-ensures (after-steps .steps .ensures) (c .lower-end .ensures) in
+    step-there day (accepted in-else1) line (below in-else2) _ line-of-ensures _ (after-steps .steps .ensures) step
+    (in-else3 .if3 .left) _ _ _ _ (after-market-of .market-of .ensures)
+    (after-operating-table .operating-table .ensures) (after-totals-of .totals-of .ensures) lower-is′
 
 pool-for-requires : tie.Need-pool-for-requires
 pool-for-requires c κs =
@@ -168,64 +159,45 @@ figures-requires c κs =
     let after-market-of = c .before .before .before .before .before .before .before .before in
     let in-else3 = after-market-of .before .before .before .before in
     let after-steps = in-else3 .before .before in
-    let in-else2 = after-steps .before .before in
-    let at-start = in-else2 .before .before .before .before .before in
+    let after-line-of = after-steps .before in
+    let in-else2 = after-line-of .before in
+    let in-else1 = in-else2 .before .before in
+    let at-start = in-else1 .before .before .before in
     let day = now (at-start .args .day) in
     let line = at-start .args .line in
     let step = at-start .args .step in
-    let line-of-ensures = after-steps .before .line-of .ensures in
-    let step-sized′ = step-sized day (accepted (in-else2 .before .before)) line (below in-else2) _ line-of-ensures _
-    (after-steps .steps .ensures) step (in-else3 .if3 .left) _ (built (c .before)) in
-    let step-payable′ = step-payable day (accepted (in-else2 .before .before)) line (below in-else2) _ line-of-ensures _
+    let step-at-ensures = c .before .step-at .ensures in
+    let step-sized′ = step-sized day (accepted in-else1) line (below in-else2) _ (after-line-of .line-of .ensures) _
+    (after-steps .steps .ensures) step (in-else3 .if3 .left) _ step-at-ensures in
+    let step-payable′ = step-payable day (accepted in-else1) line (below in-else2) _ (after-line-of .line-of .ensures) _
     (after-steps .steps .ensures) step (in-else3 .if3 .left) _
-    (pool-there day line step _ _ (built (c .before)) (c .pool-for .ensures)) _
-    (market-claw day _ (after-market-of .market-of .ensures)) _ (built (c .before)) in
+    (pool-there day line step _ _ step-at-ensures (c .pool-for .ensures)) _
+    (market-claw day _ (after-market-of .market-of .ensures)) _ step-at-ensures in
     (step-sized′, step-payable′)
 
 returns-4 : tie.Need-returns-4
 returns-4 c =
-    let after-market-of = c .before .before .before .before .before .before .before .before .before in
+    let after-step-at = c .before .before in
+    let after-market-of = after-step-at .before .before .before .before .before .before .before in
     let in-else3 = after-market-of .before .before .before .before in
-    let after-steps = in-else3 .before .before in
-    let in-else2 = after-steps .before .before in
+    let in-else2 = in-else3 .before .before .before .before in
     let in-else1 = in-else2 .before .before in
-    let after-day-number = in-else1 .before in
-    let at-start = after-day-number .before .before in
+    let at-start = in-else1 .before .before .before in
     let day = now (at-start .args .day) in
     let line = at-start .args .line in
     let step = at-start .args .step in
-    let step-built′ = built (c .before .before) in
-    let pool-there′ = pool-there day line step _ _ step-built′ (c .before .pool-for .ensures) in
-    let figures-there′ = figures-there day line step _ _ _ _ step-built′
+    let pool-there′ = pool-there day line step _ _ (after-step-at .step-at .ensures) (c .before .pool-for .ensures) in
+    let there = figures-there day line step _ _ _ _ (after-step-at .step-at .ensures)
     (market-claw day _ (after-market-of .market-of .ensures)) pool-there′ (c .figures .ensures) in
-    let count-is′ = count-is day (accepted in-else1) line (below in-else2) _ (after-steps .before .line-of .ensures) _
-    (after-steps .steps .ensures) in
-    view-whole day line step _ (after-day-number .day-number .ensures) (in-else1 .if1 .left) (below in-else2) _
-    figures-there′ (omega (arith, count-is′, in-else3 .if3 .left))
+    let count-is′ = count-is day (accepted in-else1) line (below in-else2) _
+    (in-else3 .before .before .before .line-of .ensures) _ (in-else3 .before .before .steps .ensures) in
+    view-whole day line step _ (in-else1 .before .day-number .ensures) (in-else1 .if1 .left) (below in-else2) _ there
+    (omega (arith, count-is′, in-else3 .if3 .left))
 
 pub view-spec : {M : Type 1} → statement M
 view-spec =
     tie.close
-    (tie.spec
-    (λ c κs. search needs)
-    (λ c κs. search needs)
-    returns
-    line-count-requires
-    (λ c κs. search needs)
-    returns-2
-    line-of-requires
-    steps-requires
-    (λ c. search needs)
-    (λ c κs. search needs)
-    returns-3
-    market-of-requires
-    totals-of-requires
-    lower-end-requires
-    (λ c. search needs)
-    array-read-step-of
-    price-row-requires
-    flag-row-requires
-    (λ c κs. search needs)
-    pool-for-requires
-    figures-requires
+    (tie.spec (λ c κs. search needs) (λ c κs. search needs) returns line-count-requires (λ c κs. search needs)
+    returns-2 line-of-requires steps-requires (λ c. search needs) (λ c κs. search needs) returns-3 market-of-requires
+    operating-table-requires totals-of-requires lower-end-requires step-at-requires pool-for-requires figures-requires
     returns-4)

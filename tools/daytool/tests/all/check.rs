@@ -2,6 +2,7 @@
 
 use crate::{example_text, run, stored};
 use reference::generate::damaged_day_and_number;
+use std::collections::BTreeMap;
 
 fn check(day: &[u8]) -> String {
     run(&["show", "--check"], day).text()
@@ -16,35 +17,38 @@ fn accepted() {
     }
 }
 
-/// Words of document 01's table that the message for each number has.
-const WORDS: [(u32, &str); 14] = [
-    (1, "under 64 bytes"),
-    (2, "0 or above 64"),
-    (3, "offsets"),
-    (4, "price"),
-    (5, "switch is above 1"),
-    (6, "accreditation is above 1"),
-    (7, "count is 0 or above 11"),
-    (8, "strictly rise from above 0"),
-    (9, "falls (withdrawal: rises)"),
-    (10, "unused slot"),
-    (11, "hedge"),
-    (12, "pricing or operating total"),
-    (13, "actual"),
-    (14, "same participant, point and side"),
-];
+/// The place of a number in document 01; of a later one what docs/REFUSALS.md says.
+fn place_of(number: u32, said: &str) -> &str {
+    match number {
+        1..=3 => "header",
+        4..=5 => "market",
+        6..=13 => "each line",
+        14 => "all lines",
+        _ => said,
+    }
+}
 
-/// Damaged days whose number is known beforehand.
+/// Damaged days whose number is known beforehand are refused in the words of docs/REFUSALS.md.
 #[test]
 fn each_number() {
-    for (number, words) in WORDS {
-        let mut days = (0..).map(damaged_day_and_number);
-        let (day, _) = days.find(|(_, n)| *n == Some(number)).unwrap();
+    let table = String::from_utf8(stored("docs/REFUSALS.md")).unwrap();
+    let days: BTreeMap<u32, Vec<u8>> = (0..1_000)
+        .map(damaged_day_and_number)
+        .filter_map(|(day, number)| Some((number.filter(|&n| n > 0)?, day)))
+        .collect();
+    assert!((1..=14).all(|number| days.contains_key(&number)));
+    for (number, day) in days {
+        let start = format!("| {number} | ");
+        let row = table.lines().find_map(|line| line.strip_prefix(&start));
+        let cells: Vec<&str> = row.expect("a row of the number").split(" | ").collect();
+        let (place, words) = (cells[1], cells[3].trim_end_matches(" |"));
+        assert_eq!(place, place_of(number, place), "{number}");
         let text = check(&day);
-        assert!(text.starts_with(&format!("refused {number}: ")), "{text}");
-        assert!(text.contains(words), "{text}");
-        let has_line = (6..=13).contains(&number);
-        assert_eq!(text.contains("; line "), has_line, "{text}");
+        let expected = format!("refused {number}: {words}");
+        match place {
+            "each line" => assert!(text.starts_with(&(expected + "; line ")), "{text}"),
+            _ => assert_eq!(text, expected + "\n"),
+        }
     }
 }
 
@@ -58,7 +62,7 @@ fn refused_line() {
         .replace("hedge       = 0", "hedge = 3001");
     let two = format!("{text}\n{other}");
     let said = run(&["make", "--check"], two.as_bytes()).text();
-    let condition = "a hedge is above the greatest break, or not 0 on a withdrawal";
+    let condition = "a hedge is above the line's greatest break, or isn't 0 on a withdrawal";
     let place = "line 1, participant 8, point 3, side INJ";
     assert_eq!(said, format!("refused 11: {condition}; {place}\n"));
     let same = format!("{text}\n{line}");

@@ -10,7 +10,4 @@ returns c = bit-shift _ _
 pub flag-at-spec : {M : Type 1} → statement M
 flag-at-spec =
     tie.close
-    (tie.spec
-    (λ c. search needs)
-    (λ c. search needs)
-    returns)
+    (tie.spec (λ c. search needs) (λ c. search needs) returns)

@@ -13,17 +13,17 @@ Inv-loop line hedge ends₀ prices₀ words₀ at₀ end₀ far₀ n₀ ends pri
 abbrev μ-loop : tie.MeasureT-loop
 μ-loop line hedge ends₀ prices₀ words₀ at₀ end₀ far₀ n₀ ends prices words at end far n = stepCount line - n
 
-word-at-requires : tie.Need-word-at-requires Inv-loop μ-loop
-word-at-requires c κs = omega (arith, c .before .pre .long)
+hedge-requires : tie.Need-hedge-requires Inv-loop μ-loop
+hedge-requires c κs = omega (arith, c .before .pre .long)
 
 start-requires : tie.Need-start-requires Inv-loop μ-loop
 start-requires c κs = c .before .before .pre
 
 next-gap-requires : tie.Need-next-gap-requires Inv-loop μ-loop
-next-gap-requires c κs = limited-none (c .before .before .before .pre) (c .before .word-at .ensures) (c .start .ensures)
+next-gap-requires c κs = limited-none (c .before .before .before .pre) (c .before .hedge .ensures) (c .start .ensures)
 
 loop-holds : tie.Need-loop-holds Inv-loop μ-loop
-loop-holds c = swept-none _ _ _ _ (c .before .before .word-at .ensures) (c .before .start .ensures) (c .next-gap .ensures)
+loop-holds c = swept-none _ _ _ _ (c .before .before .hedge .ensures) (c .before .start .ensures) (c .next-gap .ensures)
 
 add-end : tie.Need-add-end Inv-loop μ-loop
 add-end c =
@@ -71,10 +71,10 @@ passed-requires c κs =
 next-gap-requires-2 : tie.Need-next-gap-requires-2 Inv-loop μ-loop
 next-gap-requires-2 c κs =
     let at-loop-test = c .before .before .before .before in
-    let after-word-at = at-loop-test .before .before .before .before in
-    let at-start = after-word-at .before .before in
+    let after-hedge = at-loop-test .before .before .before .before in
+    let at-start = after-hedge .before .before in
     limited (at-start .pre) (at-loop-test .before .loop .inv) (at-loop-test .loop-test .taken)
-    (after-word-at .word-at .ensures) (c .passed .ensures)
+    (after-hedge .hedge .ensures) (c .passed .ensures)
 
 add-n : tie.Need-add-n Inv-loop μ-loop
 add-n c =
@@ -91,10 +91,10 @@ loop-less c =
 loop-again : tie.Need-loop-again Inv-loop μ-loop
 loop-again c =
     let at-loop-test = c .before .before .before .before .before in
-    let after-word-at = at-loop-test .before .before .before .before in
-    let at-start = after-word-at .before .before in
+    let after-hedge = at-loop-test .before .before .before .before in
+    let at-start = after-hedge .before .before in
     swept-more (at-start .pre) (at-loop-test .before .loop .inv) (at-loop-test .loop-test .taken)
-    (after-word-at .word-at .ensures) (c .before .before .before .put-prices .ensures) (c .before .before .marked .ensures)
+    (after-hedge .hedge .ensures) (c .before .before .before .put-prices .ensures) (c .before .before .marked .ensures)
     (c .before .passed .ensures) (c .next-gap2 .ensures)
 
 cast-t17 : tie.Need-cast-t17 Inv-loop μ-loop
@@ -111,23 +111,6 @@ returns c =
 pub steps-spec : {M : Type 1} → statement M
 steps-spec =
     tie.close
-    (tie.spec
-    Inv-loop
-    μ-loop
-    word-at-requires
-    start-requires
-    next-gap-requires
-    loop-holds
-    add-end
-    add-end-2
-    mul-ends
-    array-write-ends
-    put-prices-requires
-    marked-requires
-    passed-requires
-    next-gap-requires-2
-    add-n
-    loop-less
-    loop-again
-    cast-t17
-    returns)
+    (tie.spec Inv-loop μ-loop hedge-requires start-requires next-gap-requires loop-holds add-end add-end-2 mul-ends
+    array-write-ends put-prices-requires marked-requires passed-requires next-gap-requires-2 add-n loop-less
+    loop-again cast-t17 returns)

@@ -60,16 +60,5 @@ returns c =
 pub next-gap-spec : {M : Type 1} → statement M
 next-gap-spec =
     tie.close
-    (tie.spec
-    gap-requires
-    gap-requires-2
-    lesser-requires
-    gap-requires-3
-    gap-requires-4
-    lesser-requires-2
-    lesser-requires-3
-    gap-requires-5
-    gap-requires-6
-    lesser-requires-4
-    lesser-requires-5
-    returns)
+    (tie.spec gap-requires gap-requires-2 lesser-requires gap-requires-3 gap-requires-4 lesser-requires-2
+    lesser-requires-3 gap-requires-5 gap-requires-6 lesser-requires-4 lesser-requires-5 returns)

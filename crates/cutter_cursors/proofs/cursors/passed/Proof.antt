@@ -36,10 +36,4 @@ returns c =
 pub passed-spec : {M : Type 1} → statement M
 passed-spec =
     tie.close
-    (tie.spec
-    moved-requires
-    moved-requires-2
-    moved-requires-3
-    moved-requires-4
-    moved-requires-5
-    returns)
+    (tie.spec moved-requires moved-requires-2 moved-requires-3 moved-requires-4 moved-requires-5 returns)

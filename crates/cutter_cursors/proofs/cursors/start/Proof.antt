@@ -35,10 +35,5 @@ returns c =
 pub start-spec : {M : Type 1} → statement M
 start-spec =
     tie.close
-    (tie.spec
-    cursor-start-requires
-    cursor-start-requires-2
-    cursor-start-requires-3
-    cursor-start-requires-4
-    cursor-start-requires-5
-    returns)
+    (tie.spec cursor-start-requires cursor-start-requires-2 cursor-start-requires-3 cursor-start-requires-4
+    cursor-start-requires-5 returns)

@@ -22,9 +22,4 @@ returns-2 c =
 pub put-line-spec : {M : Type 1} → statement M
 put-line-spec =
     tie.close
-    (tie.spec
-    returns
-    (λ c κs. search needs)
-    put-cut-requires
-    (λ c. search needs)
-    returns-2)
+    (tie.spec returns (λ c κs. search needs) put-cut-requires (λ c. search needs) returns-2)

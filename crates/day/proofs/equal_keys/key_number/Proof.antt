@@ -8,7 +8,7 @@ use Rattle.rules.specs.Fold.{first}
 use Rattle.rules.specs.Refusals.{pairFault}
 use Rattle.laws.specs.Folds.{fold-begins, fold-goes, fold-stops, fold-ends}
 use Rattle.day.proofs.equal_keys.Keys.{pair-is, pair-met, pair-passed, key-is}
-use Rattle.day.proofs.header.Header.{lent-length}
+use Rattle.day_header.proofs.Header.{lent-length}
 use Rattle.day.proofs.equal_keys.key_number.Statement.{statement}
 use Rattle.day.proofs.equal_keys.key_number.Tie as tie
 
@@ -59,15 +59,5 @@ returns-2 c = key-is _ _ _ (fold-ends _ _ _ (c .before .loop .inv .1) (c .before
 pub key-number-spec : {M : Type 1} → statement M
 key-number-spec =
     tie.close
-    (tie.spec
-    Inv-loop
-    μ-loop
-    (λ c κs. search needs)
-    loop-holds
-    line-of-requires-2
-    same-key-requires
-    returns
-    (λ c. search needs)
-    (λ c. search needs)
-    loop-again
-    returns-2)
+    (tie.spec Inv-loop μ-loop (λ c κs. search needs) loop-holds line-of-requires-2 same-key-requires returns
+    (λ c. search needs) (λ c. search needs) loop-again returns-2)

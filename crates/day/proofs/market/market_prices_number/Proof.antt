@@ -1,12 +1,11 @@
 -- `day::market::market_prices_number` meets its contract.
 use Prim.Native.Nat.{_-_, _≤_}
-use mathlib.Core.Path.{_≡_, refl, sym, _∙_}
-use native.Mathlib.Omega.{arith}
+use mathlib.Core.Path.{_≡_, refl}
 use borrow.Author.Needs.{needs}
 use Rattle.rules.specs.Fold.{first}
 use Rattle.rules.specs.Refusals.{marketPriceFault}
 use Rattle.laws.specs.Folds.{fold-begins, fold-goes, fold-stops, fold-ends}
-use Rattle.day.proofs.market.Market.{market-price-above, market-price-within}
+use Rattle.day.proofs.market.Market.{market-price-read}
 use Rattle.day.proofs.market.market_prices_number.Statement.{statement}
 use Rattle.day.proofs.market.market_prices_number.Tie as tie
 
@@ -21,17 +20,19 @@ loop-holds c = fold-begins _ _ _ refl
 
 returns : tie.Need-returns Inv-loop μ-loop
 returns c =
-    let at-loop = c .before .before .before .before in
-    let market-price-above′ = market-price-above _ _ (sym (c .enum-told2 .given .1) ∙ c .before .before .read .ensures) in
-    fold-stops _ _ _ 4 (at-loop .loop .inv .1) (c .before .before .before .loop-test .taken) market-price-above′
-    (λ e. omega arith)
+    let at-loop-test = c .before .before .before .before in
+    let market-price-read′ = market-price-read _ _ _ _ _ (c .before .before .before .market-place .ensures)
+    (c .before .before .read .ensures) (c .before .price-refusal .ensures) in
+    fold-stops _ _ _ _ (at-loop-test .before .loop .inv .1) (at-loop-test .loop-test .taken) market-price-read′
+    (c .if1 .taken)
 
 loop-again : tie.Need-loop-again Inv-loop μ-loop
 loop-again c =
-    let at-loop = c .before .before .before .before in
-    let market-price-within′ = market-price-within _ _ _
-    (sym (c .enum-told .given .1) ∙ c .before .before .read .ensures) in
-    fold-goes _ _ _ 0 (at-loop .loop .inv .1) (c .before .before .before .loop-test .taken) market-price-within′ refl
+    let at-loop-test = c .before .before .before .before in
+    let market-price-read′ = market-price-read _ _ _ _ _ (c .before .before .before .market-place .ensures)
+    (c .before .before .read .ensures) (c .before .price-refusal .ensures) in
+    fold-goes _ _ _ _ (at-loop-test .before .loop .inv .1) (at-loop-test .loop-test .taken) market-price-read′
+    (c .if1 .left)
 
 returns-2 : tie.Need-returns-2 Inv-loop μ-loop
 returns-2 c = fold-ends _ _ _ (c .before .loop .inv .1) (c .before .loop .inv .0) (c .loop-test .left)
@@ -39,17 +40,5 @@ returns-2 c = fold-ends _ _ _ (c .before .loop .inv .1) (c .before .loop .inv .0
 pub market-prices-number-spec : {M : Type 1} → statement M
 market-prices-number-spec =
     tie.close
-    (tie.spec
-    Inv-loop
-    μ-loop
-    loop-holds
-    (λ c. search needs)
-    (λ c. search needs)
-    (λ c κs. search needs)
-    (λ c. search needs)
-    (λ c. search needs)
-    returns
-    (λ c. search needs)
-    (λ c. search needs)
-    loop-again
-    returns-2)
+    (tie.spec Inv-loop μ-loop loop-holds (λ c κs. search needs) (λ c κs. search needs) (λ c κs. search needs) returns
+    (λ c. search needs) (λ c. search needs) loop-again returns-2)

@@ -22,12 +22,12 @@ loop-holds c = fold-begins _ _ _ refl
 returns : tie.Need-returns Inv-loop μ-loop
 returns c =
     fold-stops _ _ _ 5 (c .before .before .before .loop .inv .1) (c .before .before .loop-test .taken)
-    (mark-above _ _ _ (c .before .word-at .ensures) (c .if1 .taken)) (λ e. omega arith)
+    (mark-above _ _ _ (c .before .cap-mark .ensures) (c .if1 .taken)) (λ e. omega arith)
 
 loop-again : tie.Need-loop-again Inv-loop μ-loop
 loop-again c =
     fold-goes _ _ _ 0 (c .before .before .before .loop .inv .1) (c .before .before .loop-test .taken)
-    (mark-within _ _ _ (c .before .word-at .ensures) (c .if1 .left)) (refl)
+    (mark-within _ _ _ (c .before .cap-mark .ensures) (c .if1 .left)) (refl)
 
 returns-2 : tie.Need-returns-2 Inv-loop μ-loop
 returns-2 c = fold-ends _ _ _ (c .before .loop .inv .1) (c .before .loop .inv .0) (c .loop-test .left)
@@ -35,16 +35,5 @@ returns-2 c = fold-ends _ _ _ (c .before .loop .inv .1) (c .before .loop .inv .0
 pub marks-number-spec : {M : Type 1} → statement M
 marks-number-spec =
     tie.close
-    (tie.spec
-    Inv-loop
-    μ-loop
-    loop-holds
-    (λ c. search needs)
-    (λ c. search needs)
-    (λ c. search needs)
-    (λ c κs. search needs)
-    returns
-    (λ c. search needs)
-    (λ c. search needs)
-    loop-again
-    returns-2)
+    (tie.spec Inv-loop μ-loop loop-holds (λ c κs. search needs) returns (λ c. search needs) (λ c. search needs)
+    loop-again returns-2)

@@ -4,7 +4,7 @@ use denote.Ref.{now}
 use native.Mathlib.Omega.{arith}
 use borrow.Author.Needs.{needs}
 use Rattle.engine_c.specs.Parts.{part-none, part-some}
-use Rattle.day.proofs.header.Header.{part-bounds}
+use Rattle.day_header.proofs.Header.{part-bounds}
 use Rattle.engine_c.proofs.part.mewikofu_line_part.Statement.{statement}
 use Rattle.engine_c.proofs.part.mewikofu_line_part.Tie as tie
 
@@ -18,21 +18,16 @@ line-most c =
     part-bounds (now (at-start .args .day)) (at-start .args .k) _ (c .before .line-part-number .ensures) (c .if1 .left)
     .line-most
 
-mul-at : tie.Need-mul-at
-mul-at c = record { fits = omega (arith, line-most c) }
-
-add-at : tie.Need-add-at
-add-at c = record { fits = omega (arith, line-most c) }
+line-place-requires : tie.Need-line-place-requires
+line-place-requires c κs = omega (arith, line-most c)
 
 returns-2 : tie.Need-returns-2
-returns-2 c = part-some (now (c .before .before .before .args .day)) _ _ (c .before .line-part-number .ensures) (c .if1 .left)
+returns-2 c =
+    let at-start = c .before .before .before .before in
+    part-some (now (at-start .args .day)) _ _ _ (c .before .before .line-part-number .ensures) (c .before .if1 .left)
+    (c .line-place .ensures)
 
 pub mewikofu-line-part-spec : {M : Type 1} → statement M
 mewikofu-line-part-spec =
     tie.close
-    (tie.spec
-    (λ c κs. search needs)
-    returns
-    mul-at
-    add-at
-    returns-2)
+    (tie.spec (λ c κs. search needs) returns line-place-requires returns-2)

@@ -54,6 +54,4 @@ returns c =
 pub mewikofu-view-spec : {M : Type 1} → statement M
 mewikofu-view-spec =
     tie.close
-    (tie.spec
-    (λ c κs. search needs)
-    returns)
+    (tie.spec (λ c κs. search needs) returns)

@@ -7,31 +7,14 @@ use Rattle.line.proofs.greatest_break.Laws.{last-most}
 use Rattle.line.proofs.greatest_break.bid_most.Statement.{statement}
 use Rattle.line.proofs.greatest_break.bid_most.Tie as tie
 
-sub-word-at : tie.Need-sub-word-at
-sub-word-at c = omega (arith, accepted-bid _ _ (c .before .before .pre .2) .count-least)
+sub-bid-break : tie.Need-sub-bid-break
+sub-bid-break c = omega (arith, accepted-bid _ _ (c .before .before .pre .2) .count-least)
 
-add-word-at-3 : tie.Need-add-word-at-3
-add-word-at-3 c = record { fits = omega (arith, accepted-bid _ _ (c .before .before .pre .2) .count-most) }
-
-mul-word-at-2 : tie.Need-mul-word-at-2
-mul-word-at-2 c = record { fits = omega (arith, accepted-bid _ _ (c .before .before .pre .2) .count-most) }
-
-word-at-requires : tie.Need-word-at-requires
-word-at-requires c κs = omega (arith, accepted-bid _ _ (c .before .before .pre .2) .count-most)
+bid-break-requires : tie.Need-bid-break-requires
+bid-break-requires c κs = (search needs, search needs, omega (arith, accepted-bid _ _ (c .before .before .pre .2) .count-most, c .bid-count .ensures))
 
 returns : tie.Need-returns
-returns c = c .word-at .ensures ∙ last-most _ _ _ (c .before .before .before .pre .2) (c .before .count-of .ensures)
+returns c = c .bid-break .ensures ∙ last-most _ _ _ (c .before .before .before .pre .2) (c .before .bid-count .ensures)
 
 pub bid-most-spec : {M : Type 1} → statement M
-bid-most-spec =
-    tie.close
-    (tie.spec
-    (λ c κs. search needs)
-    (λ c. search needs)
-    (λ c. search needs)
-    (λ c. search needs)
-    sub-word-at
-    add-word-at-3
-    mul-word-at-2
-    word-at-requires
-    returns)
+bid-most-spec = tie.close (tie.spec (λ c κs. search needs) sub-bid-break bid-break-requires returns)

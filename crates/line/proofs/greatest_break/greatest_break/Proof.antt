@@ -38,14 +38,5 @@ returns c =
 pub greatest-break-spec : {M : Type 1} → statement M
 greatest-break-spec =
     tie.close
-    (tie.spec
-    bid-most-requires
-    bid-most-requires-2
-    (λ c κs. search needs)
-    bid-most-requires-3
-    (λ c κs. search needs)
-    bid-most-requires-4
-    (λ c κs. search needs)
-    bid-most-requires-5
-    (λ c κs. search needs)
-    returns)
+    (tie.spec bid-most-requires bid-most-requires-2 (λ c κs. search needs) bid-most-requires-3 (λ c κs. search needs)
+    bid-most-requires-4 (λ c κs. search needs) bid-most-requires-5 (λ c κs. search needs) returns)

@@ -1,13 +1,9 @@
 -- `line::limits::limits_number` meets its contract.
-use Prim.Native.Nat.{ℕ}
 use mathlib.Core.Path.{_∙_, ap}
-use mathlib.Core.List.{List}
 use denote.Ref.{now}
 use borrow.Author.Needs.{needs}
-use Rattle.rules.specs.Fold.{five}
 use Rattle.laws.specs.Folds.{part-stops, part-passes}
 use Rattle.line.specs.Faults.{hedgeFault, limitsFault}
-use Rattle.line_quantities.specs.Sums.{tableTotal}
 use Rattle.line.proofs.limits.Laws.{totals-are}
 use Rattle.line.proofs.limits.limits_number.Statement.{statement}
 use Rattle.line.proofs.limits.limits_number.Tie as tie
@@ -23,49 +19,33 @@ returns c =
 returns-2 : tie.Need-returns-2
 unfolding limitsFault
 returns-2 c =
-    let after-pricing-totals = c .before .before .before .before in
-    let after-greatest-break = after-pricing-totals .before .before .before .before in
+    let after-wide = c .before .before .before .before in
+    let after-greatest-break = after-wide .before .before .before in
     let at-start = after-greatest-break .before .before in
-    let equal₁ = after-pricing-totals .before .before .before .hedge-number .ensures
+    let equal′ = after-wide .before .before .hedge-number .ensures
     ∙ ap (hedgeFault (now (at-start .args .line))) (after-greatest-break .greatest-break .ensures) in
-    let equal₂ = c .before .before .operating-totals .ensures
-    ∙ ap (λ (t : List (List ℕ)). five (tableTotal t)) (c .before .before .before .operating-table .ensures) in
-    let totals-are′ = totals-are _ _ _ _
-    (after-pricing-totals .before .wide .ensures .0 ∙ after-greatest-break .greatest-break .ensures)
-    (after-pricing-totals .pricing-totals .ensures) equal₂ in
+    let totals-are′ = totals-are _ _ _ _ _ (after-wide .wide .ensures .0 ∙ after-greatest-break .greatest-break .ensures)
+    (c .before .before .before .pricing-totals .ensures) (c .before .before .operating-totals .ensures) in
     let part-stops′ = part-stops _ _ _ (c .before .totals-number .ensures ∙ totals-are′) (c .if2 .taken) in
-    part-passes _ _ _ _ equal₁ (after-pricing-totals .before .before .if1 .left) part-stops′
+    part-passes _ _ _ _ equal′ (after-wide .before .if1 .left) part-stops′
 
 returns-3 : tie.Need-returns-3
 unfolding limitsFault
 returns-3 c =
-    let after-operating-table = c .before .before .before .before in
-    let after-hedge-number = after-operating-table .before .before .before .before in
-    let after-greatest-break = after-hedge-number .before in
+    let after-pricing-totals = c .before .before .before .before in
+    let after-greatest-break = after-pricing-totals .before .before .before .before in
     let at-start = after-greatest-break .before .before in
-    let equal₁ = after-hedge-number .hedge-number .ensures
+    let equal′ = after-pricing-totals .before .before .before .hedge-number .ensures
     ∙ ap (hedgeFault (now (at-start .args .line))) (after-greatest-break .greatest-break .ensures) in
-    let equal₂ = c .before .before .before .operating-totals .ensures
-    ∙ ap (λ (t : List (List ℕ)). five (tableTotal t)) (after-operating-table .operating-table .ensures) in
-    let totals-are′ = totals-are _ _ _ _
-    (after-operating-table .before .before .wide .ensures .0 ∙ after-greatest-break .greatest-break .ensures)
-    (after-operating-table .before .pricing-totals .ensures) equal₂ in
+    let totals-are′ = totals-are _ _ _ _ _
+    (after-pricing-totals .before .wide .ensures .0 ∙ after-greatest-break .greatest-break .ensures)
+    (after-pricing-totals .pricing-totals .ensures) (c .before .before .before .operating-totals .ensures) in
     let part-passes′ = part-passes _ _ _ _ (c .before .before .totals-number .ensures ∙ totals-are′) (c .before .if2 .left)
     (c .actuals-number .ensures) in
-    part-passes _ _ _ _ equal₁ (after-operating-table .before .before .before .if1 .left) part-passes′
+    part-passes _ _ _ _ equal′ (after-pricing-totals .before .before .if1 .left) part-passes′
 
 pub limits-number-spec : {M : Type 1} → statement M
 limits-number-spec =
     tie.close
-    (tie.spec
-    (λ c κs. search needs)
-    (λ c κs. search needs)
-    returns
-    (λ c κs. search needs)
-    (λ c κs. search needs)
-    (λ c κs. search needs)
-    (λ c κs. search needs)
-    (λ c κs. search needs)
-    returns-2
-    (λ c κs. search needs)
-    returns-3)
+    (tie.spec (λ c κs. search needs) (λ c κs. search needs) returns (λ c κs. search needs) (λ c κs. search needs)
+    (λ c κs. search needs) (λ c κs. search needs) returns-2 (λ c κs. search needs) returns-3)

@@ -13,18 +13,7 @@ returns c = before-first _ _ (c .if1 .taken)
 returns-2 : tie.Need-returns-2
 returns-2 c =
     let at-start = c .before .before .before in
-    c .word-at .ensures ∙ before-later (bidBreak (now (at-start .args .line)) (at-start .args .s)) _ (c .before .if1 .left)
+    c .bid-break .ensures ∙ before-later (bidBreak (now (at-start .args .line)) (at-start .args .s)) _ (c .before .if1 .left)
 
 pub break-before-spec : {M : Type 1} → statement M
-break-before-spec =
-    tie.close
-    (tie.spec
-    returns
-    (λ c. search needs)
-    (λ c. search needs)
-    (λ c. search needs)
-    (λ c. search needs)
-    (λ c. search needs)
-    (λ c. search needs)
-    (λ c κs. search needs)
-    returns-2)
+break-before-spec = tie.close (tie.spec returns (λ c. search needs) (λ c κs. search needs) returns-2)

@@ -16,7 +16,4 @@ returns-3 c = count-none _ (c .before .if1 .left) (c .if2 .left)
 pub count-number-spec : {M : Type 1} → statement M
 count-number-spec =
     tie.close
-    (tie.spec
-    returns
-    returns-2
-    returns-3)
+    (tie.spec returns returns-2 returns-3)

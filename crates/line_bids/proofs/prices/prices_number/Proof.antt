@@ -33,13 +33,5 @@ returns-2 c = fold-ends _ _ _ (c .before .loop .inv .1) (c .before .loop .inv .0
 pub prices-number-spec : {M : Type 1} → statement M
 prices-number-spec =
     tie.close
-    (tie.spec
-    Inv-loop
-    μ-loop
-    loop-holds
-    (λ c κs. search needs)
-    returns
-    (λ c. search needs)
-    (λ c. search needs)
-    loop-again
-    returns-2)
+    (tie.spec Inv-loop μ-loop loop-holds (λ c κs. search needs) returns (λ c. search needs) (λ c. search needs)
+    loop-again returns-2)

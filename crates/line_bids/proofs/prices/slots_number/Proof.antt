@@ -16,8 +16,4 @@ returns-2 c =
 pub slots-number-spec : {M : Type 1} → statement M
 slots-number-spec =
     tie.close
-    (tie.spec
-    (λ c κs. search needs)
-    returns
-    (λ c κs. search needs)
-    returns-2)
+    (tie.spec (λ c κs. search needs) returns (λ c κs. search needs) returns-2)

@@ -22,7 +22,7 @@ loop-holds c = fold-begins _ _ _ refl
 returns : tie.Need-returns Inv-loop μ-loop
 returns c =
     let at-start = c .before .before .before .before .before in
-    let unused-break-is′ = unused-break-is _ _ _ _ _ (at-start .pre .3) (c .before .word-at .ensures) (c .if1 .taken) in
+    let unused-break-is′ = unused-break-is _ _ _ _ _ (at-start .pre .3) (c .before .bid-break .ensures) (c .if1 .taken) in
     fold-stops _ _ _ 10 (c .before .before .before .loop .inv .1) (c .before .before .loop-test .taken) unused-break-is′
     (λ e. omega arith)
 
@@ -30,8 +30,8 @@ returns-2 : tie.Need-returns-2 Inv-loop μ-loop
 returns-2 c =
     let at-loop-test = c .before .before .before .before in
     let at-start = at-loop-test .before .before .before in
-    let unused-price-is′ = unused-price-is _ _ _ _ _ _ (at-start .pre .3) (c .before .before .before .word-at .ensures)
-    (c .before .before .if1 .left) (c .before .word-at2 .ensures) (c .if2 .taken) in
+    let unused-price-is′ = unused-price-is _ _ _ _ _ _ (at-start .pre .3) (c .before .before .before .bid-break .ensures)
+    (c .before .before .if1 .left) (c .before .bid-price .ensures) (c .if2 .taken) in
     fold-stops _ _ _ 10 (at-loop-test .before .loop .inv .1) (at-loop-test .loop-test .taken) unused-price-is′
     (λ e. omega arith)
 
@@ -39,8 +39,8 @@ loop-again : tie.Need-loop-again Inv-loop μ-loop
 loop-again c =
     let at-loop-test = c .before .before .before .before in
     let at-start = at-loop-test .before .before .before in
-    let unused-none-is′ = unused-none-is _ _ _ _ _ _ (at-start .pre .3) (c .before .before .before .word-at .ensures)
-    (c .before .before .if1 .left) (c .before .word-at2 .ensures) (c .if2 .left) in
+    let unused-none-is′ = unused-none-is _ _ _ _ _ _ (at-start .pre .3) (c .before .before .before .bid-break .ensures)
+    (c .before .before .if1 .left) (c .before .bid-price .ensures) (c .if2 .left) in
     fold-goes _ _ _ 0 (at-loop-test .before .loop .inv .1) (at-loop-test .loop-test .taken) unused-none-is′ refl
 
 returns-3 : tie.Need-returns-3 Inv-loop μ-loop
@@ -49,28 +49,5 @@ returns-3 c = fold-ends _ _ _ (c .before .loop .inv .1) (c .before .loop .inv .0
 pub unused-number-spec : {M : Type 1} → statement M
 unused-number-spec =
     tie.close
-    (tie.spec
-    Inv-loop
-    μ-loop
-    loop-holds
-    (λ c. search needs)
-    (λ c. search needs)
-    (λ c. search needs)
-    (λ c. search needs)
-    (λ c. search needs)
-    (λ c. search needs)
-    (λ c. search needs)
-    (λ c κs. search needs)
-    returns
-    (λ c. search needs)
-    (λ c. search needs)
-    (λ c. search needs)
-    (λ c. search needs)
-    (λ c. search needs)
-    (λ c. search needs)
-    (λ c κs. search needs)
-    returns-2
-    (λ c. search needs)
-    (λ c. search needs)
-    loop-again
-    returns-3)
+    (tie.spec Inv-loop μ-loop loop-holds (λ c. search needs) (λ c. search needs) (λ c κs. search needs) returns
+    (λ c. search needs) (λ c κs. search needs) returns-2 (λ c. search needs) (λ c. search needs) loop-again returns-3)

@@ -35,10 +35,5 @@ returns c =
 pub final-minus-spec : {M : Type 1} → statement M
 final-minus-spec =
     tie.close
-    (tie.spec
-    taken-in-requires
-    taken-in-requires-2
-    taken-in-requires-3
-    taken-in-requires-4
-    taken-in-requires-5
+    (tie.spec taken-in-requires taken-in-requires-2 taken-in-requires-3 taken-in-requires-4 taken-in-requires-5
     returns)

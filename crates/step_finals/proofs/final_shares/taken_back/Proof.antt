@@ -65,13 +65,4 @@ returns-5 c =
 pub taken-back-spec : {M : Type 1} → statement M
 taken-back-spec =
     tie.close
-    (tie.spec
-    returns
-    returns-2
-    returns-3
-    returns-4
-    (λ c κs. tt)
-    share-requires
-    add-lesser64
-    (λ c κs. tt)
-    returns-5)
+    (tie.spec returns returns-2 returns-3 returns-4 (λ c κs. tt) share-requires add-lesser64 (λ c κs. tt) returns-5)

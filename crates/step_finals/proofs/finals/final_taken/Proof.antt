@@ -50,11 +50,5 @@ returns c =
 pub final-taken-spec : {M : Type 1} → statement M
 final-taken-spec =
     tie.close
-    (tie.spec
-    (λ c κs. search needs)
-    revised-minus-requires
-    modified-minus-requires
-    (λ c κs. search needs)
-    (λ c κs. search needs)
-    final-minus-requires
-    returns)
+    (tie.spec (λ c κs. search needs) revised-minus-requires modified-minus-requires (λ c κs. search needs)
+    (λ c κs. search needs) final-minus-requires returns)

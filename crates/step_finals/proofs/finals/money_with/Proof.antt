@@ -91,19 +91,6 @@ returns-5 c =
 pub money-with-spec : {M : Type 1} → statement M
 money-with-spec =
     tie.close
-    (tie.spec
-    (λ c κs. search needs)
-    returns
-    (λ c κs. search needs)
-    returns-2
-    (λ c κs. search needs)
-    (λ c κs. search needs)
-    changes-on-requires
-    money-add-requires
-    returns-3
-    (λ c κs. search needs)
-    money-add-requires-2
-    returns-4
-    final-taken-requires
-    money-add-requires-3
-    returns-5)
+    (tie.spec (λ c κs. search needs) returns (λ c κs. search needs) returns-2 (λ c κs. search needs)
+    (λ c κs. search needs) changes-on-requires money-add-requires returns-3 (λ c κs. search needs)
+    money-add-requires-2 returns-4 final-taken-requires money-add-requires-3 returns-5)

@@ -16,7 +16,4 @@ returns-2 c = simp (ne-eqb _ _ (c .if1 .left))
 pub capped-spec : {M : Type 1} → statement M
 capped-spec =
     tie.close
-    (tie.spec
-    (λ c κs. search needs)
-    returns
-    returns-2)
+    (tie.spec (λ c κs. search needs) returns returns-2)

@@ -19,7 +19,4 @@ returns-3 c = simp (eq-eqb _ _ (c .before .if1 .left), lt-leb _ _ (c .if2 .left)
 pub paid-spec : {M : Type 1} → statement M
 paid-spec =
     tie.close
-    (tie.spec
-    returns
-    returns-2
-    returns-3)
+    (tie.spec returns returns-2 returns-3)

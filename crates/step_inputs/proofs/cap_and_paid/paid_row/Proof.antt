@@ -12,6 +12,4 @@ returns c = same-five (c .paid .ensures) (c .paid .ensures) (c .paid .ensures) (
 pub paid-row-spec : {M : Type 1} → statement M
 paid-row-spec =
     tie.close
-    (tie.spec
-    (λ c κs. search needs)
-    returns)
+    (tie.spec (λ c κs. search needs) returns)

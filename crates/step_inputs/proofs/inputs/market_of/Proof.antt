@@ -6,15 +6,8 @@ use Rattle.step_inputs.proofs.inputs.market_of.Tie as tie
 
 returns : tie.Need-returns
 returns c =
-    market-is _ _ _ _ _ (c .before .before .before .market-row .ensures) (c .before .before .market-row2 .ensures)
-    (c .before .word-at .ensures) (c .word-at2 .ensures)
+    market-is _ _ _ _ _ (c .before .before .before .market-prices .ensures) (c .before .before .cap-marks .ensures)
+    (c .before .price-cap .ensures) (c .clawback .ensures)
 
 pub market-of-spec : {M : Type 1} → statement M
-market-of-spec =
-    tie.close
-    (tie.spec
-    (λ c κs. search needs)
-    (λ c κs. search needs)
-    (λ c κs. search needs)
-    (λ c κs. search needs)
-    returns)
+market-of-spec = tie.close (tie.spec (λ c κs. search needs) (λ c κs. search needs) (λ c κs. search needs) (λ c κs. search needs) returns)

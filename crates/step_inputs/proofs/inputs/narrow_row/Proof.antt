@@ -31,15 +31,5 @@ returns c =
 pub narrow-row-spec : {M : Type 1} → statement M
 narrow-row-spec =
     tie.close
-    (tie.spec
-    (λ c. search needs)
-    narrow-requires
-    (λ c. search needs)
-    narrow-requires-2
-    (λ c. search needs)
-    narrow-requires-3
-    (λ c. search needs)
-    narrow-requires-4
-    (λ c. search needs)
-    narrow-requires-5
-    returns)
+    (tie.spec (λ c. search needs) narrow-requires (λ c. search needs) narrow-requires-2 (λ c. search needs)
+    narrow-requires-3 (λ c. search needs) narrow-requires-4 (λ c. search needs) narrow-requires-5 returns)

@@ -10,7 +10,4 @@ returns c = step-from-is _ _ _ _ _ _ _ _ (c .before .capped-row .ensures) (c .pa
 pub step-of-spec : {M : Type 1} → statement M
 step-of-spec =
     tie.close
-    (tie.spec
-    (λ c κs. search needs)
-    (λ c κs. search needs)
-    returns)
+    (tie.spec (λ c κs. search needs) (λ c κs. search needs) returns)

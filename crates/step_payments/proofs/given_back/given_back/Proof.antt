@@ -2,7 +2,8 @@
 use native.Mathlib.Omega.{arith}
 use borrow.Author.Needs.{needs}
 use Rattle.rules.specs.Fold.{sumTo}
-use Rattle.step_payments.specs.Amounts.{givenAt, productIn}
+use Rattle.step_payments.specs.Amounts.{givenAt}
+use Rattle.step_changes.specs.Changes.{productIn}
 use Rattle.step_payments.proofs.given_back.given_back.Statement.{statement}
 use Rattle.step_payments.proofs.given_back.given_back.Tie as tie
 
@@ -34,20 +35,6 @@ returns c = omega (arith, c .before .before .before .product .ensures, c .before
 pub given-back-spec : {M : Type 1} → statement M
 given-back-spec =
     tie.close
-    (tie.spec
-    (λ c. search needs)
-    (λ c. search needs)
-    (λ c κs. tt)
-    (λ c. search needs)
-    (λ c. search needs)
-    (λ c κs. tt)
-    add-result
-    (λ c. search needs)
-    (λ c. search needs)
-    (λ c κs. tt)
-    add-result-2
-    (λ c. search needs)
-    (λ c. search needs)
-    (λ c κs. tt)
-    add-result-3
-    returns)
+    (tie.spec (λ c. search needs) (λ c. search needs) (λ c κs. tt) (λ c. search needs) (λ c. search needs)
+    (λ c κs. tt) add-result (λ c. search needs) (λ c. search needs) (λ c κs. tt) add-result-2 (λ c. search needs)
+    (λ c. search needs) (λ c κs. tt) add-result-3 returns)

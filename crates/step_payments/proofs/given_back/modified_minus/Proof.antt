@@ -66,17 +66,6 @@ returns c =
 pub modified-minus-spec : {M : Type 1} → statement M
 modified-minus-spec =
     tie.close
-    (tie.spec
-    (λ c. search needs)
-    (λ c. search needs)
-    given-if-taken-requires
-    (λ c. search needs)
-    (λ c. search needs)
-    given-if-taken-requires-2
-    (λ c. search needs)
-    (λ c. search needs)
-    given-if-taken-requires-3
-    (λ c. search needs)
-    (λ c. search needs)
-    given-if-taken-requires-4
-    returns)
+    (tie.spec (λ c. search needs) (λ c. search needs) given-if-taken-requires (λ c. search needs) (λ c. search needs)
+    given-if-taken-requires-2 (λ c. search needs) (λ c. search needs) given-if-taken-requires-3 (λ c. search needs)
+    (λ c. search needs) given-if-taken-requires-4 returns)

@@ -20,8 +20,4 @@ returns-2 c =
 pub revised-back-spec : {M : Type 1} → statement M
 revised-back-spec =
     tie.close
-    (tie.spec
-    returns
-    (λ c κs. search needs)
-    given-back-requires
-    returns-2)
+    (tie.spec returns (λ c κs. search needs) given-back-requires returns-2)

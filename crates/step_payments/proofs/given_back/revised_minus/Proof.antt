@@ -7,7 +7,8 @@ use native.Mathlib.Omega.{arith}
 use borrow.Author.Needs.{needs}
 use Rattle.rules.specs.Payments.{revisedRate, revised}
 use Rattle.numbers.specs.Fives.{five-is}
-use Rattle.step_payments.specs.Amounts.{revisedAt, minusOf}
+use Rattle.step_payments.specs.Amounts.{minusOf}
+use Rattle.step_changes.specs.Changes.{revisedAt}
 use Rattle.step_payments.proofs.amounts.Joining.{given-fits, revised-rate-most, revised-entry, revised-entry-first}
 use Rattle.step_payments.proofs.given_back.revised_minus.Statement.{statement}
 use Rattle.step_payments.proofs.given_back.revised_minus.Tie as tie
@@ -67,25 +68,7 @@ returns c =
 pub revised-minus-spec : {M : Type 1} → statement M
 revised-minus-spec =
     tie.close
-    (tie.spec
-    (λ c. search needs)
-    (λ c. search needs)
-    (λ c. search needs)
-    (λ c. search needs)
-    revised-back-requires
-    (λ c. search needs)
-    (λ c. search needs)
-    (λ c. search needs)
-    (λ c. search needs)
-    revised-back-requires-2
-    (λ c. search needs)
-    (λ c. search needs)
-    (λ c. search needs)
-    (λ c. search needs)
-    revised-back-requires-3
-    (λ c. search needs)
-    (λ c. search needs)
-    (λ c. search needs)
-    (λ c. search needs)
-    revised-back-requires-4
-    returns)
+    (tie.spec (λ c. search needs) (λ c. search needs) (λ c. search needs) (λ c. search needs) revised-back-requires
+    (λ c. search needs) (λ c. search needs) (λ c. search needs) (λ c. search needs) revised-back-requires-2
+    (λ c. search needs) (λ c. search needs) (λ c. search needs) (λ c. search needs) revised-back-requires-3
+    (λ c. search needs) (λ c. search needs) (λ c. search needs) (λ c. search needs) revised-back-requires-4 returns)

@@ -30,10 +30,4 @@ returns c =
 pub modified-money-spec : {M : Type 1} → statement M
 modified-money-spec =
     tie.close
-    (tie.spec
-    (λ c κs. tt)
-    (λ c κs. tt)
-    (λ c κs. tt)
-    (λ c κs. tt)
-    modified-minus-requires
-    returns)
+    (tie.spec (λ c κs. tt) (λ c κs. tt) (λ c κs. tt) (λ c κs. tt) modified-minus-requires returns)

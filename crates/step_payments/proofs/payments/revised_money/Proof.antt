@@ -30,9 +30,4 @@ returns c =
 pub revised-money-spec : {M : Type 1} → statement M
 revised-money-spec =
     tie.close
-    (tie.spec
-    (λ c κs. search needs)
-    (λ c κs. search needs)
-    (λ c κs. search needs)
-    revised-minus-requires
-    returns)
+    (tie.spec (λ c κs. search needs) (λ c κs. search needs) (λ c κs. search needs) revised-minus-requires returns)

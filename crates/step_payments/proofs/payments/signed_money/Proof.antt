@@ -58,20 +58,7 @@ returns c =
 pub signed-money-spec : {M : Type 1} → statement M
 signed-money-spec =
     tie.close
-    (tie.spec
-    (λ c. search needs)
-    (λ c. search needs)
-    signed-difference-requires
-    (λ c. search needs)
-    (λ c. search needs)
-    signed-difference-requires-2
-    (λ c. search needs)
-    (λ c. search needs)
-    signed-difference-requires-3
-    (λ c. search needs)
-    (λ c. search needs)
-    signed-difference-requires-4
-    (λ c. search needs)
-    (λ c. search needs)
-    signed-difference-requires-5
-    returns)
+    (tie.spec (λ c. search needs) (λ c. search needs) signed-difference-requires (λ c. search needs)
+    (λ c. search needs) signed-difference-requires-2 (λ c. search needs) (λ c. search needs)
+    signed-difference-requires-3 (λ c. search needs) (λ c. search needs) signed-difference-requires-4
+    (λ c. search needs) (λ c. search needs) signed-difference-requires-5 returns)

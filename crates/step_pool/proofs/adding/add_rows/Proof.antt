@@ -33,20 +33,6 @@ returns c = refl
 pub add-rows-spec : {M : Type 1} → statement M
 add-rows-spec =
     tie.close
-    (tie.spec
-    (λ c. search needs)
-    (λ c. search needs)
-    add-t11
-    (λ c. search needs)
-    (λ c. search needs)
-    add-t18
-    (λ c. search needs)
-    (λ c. search needs)
-    add-t25
-    (λ c. search needs)
-    (λ c. search needs)
-    add-t32
-    (λ c. search needs)
-    (λ c. search needs)
-    add-t39
-    returns)
+    (tie.spec (λ c. search needs) (λ c. search needs) add-t11 (λ c. search needs) (λ c. search needs) add-t18
+    (λ c. search needs) (λ c. search needs) add-t25 (λ c. search needs) (λ c. search needs) add-t32
+    (λ c. search needs) (λ c. search needs) add-t39 returns)

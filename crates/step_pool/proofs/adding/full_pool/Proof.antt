@@ -32,10 +32,5 @@ returns c =
 pub full-pool-spec : {M : Type 1} → statement M
 full-pool-spec =
     tie.close
-    (tie.spec
-    (λ c κs. search needs)
-    revised-minus-requires
-    (λ c κs. search needs)
-    (λ c κs. search needs)
-    (λ c κs. search needs)
-    returns)
+    (tie.spec (λ c κs. search needs) revised-minus-requires (λ c κs. search needs) (λ c κs. search needs)
+    (λ c κs. search needs) returns)

@@ -26,7 +26,4 @@ returns c =
 pub kept-pool-spec : {M : Type 1} → statement M
 kept-pool-spec =
     tie.close
-    (tie.spec
-    (λ c κs. search needs)
-    (λ c κs. search needs)
-    returns)
+    (tie.spec (λ c κs. search needs) (λ c κs. search needs) returns)

@@ -43,10 +43,5 @@ returns c =
 pub pool-add-spec : {M : Type 1} → statement M
 pool-add-spec =
     tie.close
-    (tie.spec
-    add-rows-requires
-    add-rows-requires-2
-    add-rows-requires-3
-    add-rows-requires-4
-    add-rows-requires-5
+    (tie.spec add-rows-requires add-rows-requires-2 add-rows-requires-3 add-rows-requires-4 add-rows-requires-5
     returns)

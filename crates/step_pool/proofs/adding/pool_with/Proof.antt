@@ -61,18 +61,6 @@ returns-4 c =
 pub pool-with-spec : {M : Type 1} → statement M
 pool-with-spec =
     tie.close
-    (tie.spec
-    (λ c κs. search needs)
-    returns
-    (λ c κs. search needs)
-    returns-2
-    (λ c κs. search needs)
-    (λ c κs. search needs)
-    changes-on-requires
-    (λ c κs. search needs)
-    kept-pool-requires
-    pool-add-requires
-    returns-3
-    full-pool-requires
-    pool-add-requires-2
-    returns-4)
+    (tie.spec (λ c κs. search needs) returns (λ c κs. search needs) returns-2 (λ c κs. search needs)
+    (λ c κs. search needs) changes-on-requires (λ c κs. search needs) kept-pool-requires pool-add-requires returns-3
+    full-pool-requires pool-add-requires-2 returns-4)

@@ -18,8 +18,4 @@ returns-2 c =
 pub unconstrained-spec : {M : Type 1} → statement M
 unconstrained-spec =
     tie.close
-    (tie.spec
-    (λ c κs. search needs)
-    returns
-    (λ c κs. search needs)
-    returns-2)
+    (tie.spec (λ c κs. search needs) returns (λ c κs. search needs) returns-2)

@@ -14,6 +14,4 @@ returns c = ap (λ (n : ℕ). eqb n 0) (c .most .ensures)
 pub unpaid-spec : {M : Type 1} → statement M
 unpaid-spec =
     tie.close
-    (tie.spec
-    (λ c κs. search needs)
-    returns)
+    (tie.spec (λ c κs. search needs) returns)

@@ -10,8 +10,4 @@ returns c = rw (c .agino .ensures, c .before .before .operating-on .ensures, c .
 pub agino-on-spec : {M : Type 1} → statement M
 agino-on-spec =
     tie.close
-    (tie.spec
-    (λ c κs. tt)
-    (λ c κs. tt)
-    (λ c κs. tt)
-    returns)
+    (tie.spec (λ c κs. tt) (λ c κs. tt) (λ c κs. tt) returns)

@@ -17,18 +17,12 @@ returns c =
     let c6 = c5 .before .before .before .before in
     let n = c6 .args .n in
     written-wider (25 + 177 * n + 235) reportMost
-    (written-as (book-is (now (c6 .args .book)) (c6 .pre .1) (c3 .five-at .ensures) (c2 .five-at2 .ensures))
+    (written-as (book-is (now (c6 .args .book)) (c6 .pre .1) (c3 .totals .ensures) (c2 .adjusted-totals .ensures))
     (then (then (c5 .put-heading .ensures) (c4 .put-entries .ensures)) (c1 .put-totals .ensures)))
     (search needs)
 
 pub put-book-spec : {M : Type 1} → statement M
 put-book-spec =
     tie.close
-    (tie.spec
-    (λ c κs. search needs)
-    (λ c κs. search needs)
-    (λ c κs. search needs)
-    (λ c κs. search needs)
-    (λ c κs. search needs)
-    (λ c. search needs)
-    returns)
+    (tie.spec (λ c κs. search needs) (λ c κs. search needs) (λ c κs. search needs) (λ c κs. search needs)
+    (λ c κs. search needs) (λ c. search needs) returns)

@@ -8,29 +8,16 @@ use Rattle.text_report.proofs.report.put_entry.Tie as tie
 
 returns : tie.Need-returns
 returns c =
-    let after-word-at3 = c .before .before .before .before in
-    let after-five-at = after-word-at3 .before .before .before .before in
-    let at-start = after-five-at .before .before .before in
+    let after-side = c .before .before .before .before in
+    let after-payments = after-side .before .before .before .before in
+    let at-start = after-payments .before .before .before in
     let entry-is′ = entry-is (now (at-start .args .book)) (at-start .args .k)
-    (after-word-at3 .before .before .word-at .ensures) (after-word-at3 .before .word-at2 .ensures)
-    (after-word-at3 .word-at3 .ensures) (c .before .before .before .word-at4 .ensures) (after-five-at .five-at .ensures) in
+    (after-side .before .before .participant .ensures) (after-side .before .point .ensures) (after-side .side .ensures)
+    (c .before .before .before .step-count .ensures) (after-payments .payments .ensures) in
     written-as entry-is′ (c .before .before .put-line .ensures)
 
 pub put-entry-spec : {M : Type 1} → statement M
 put-entry-spec =
     tie.close
-    (tie.spec
-    (λ c. search needs)
-    (λ c. search needs)
-    (λ c. search needs)
-    (λ c κs. search needs)
-    (λ c κs. search needs)
-    (λ c. search needs)
-    (λ c κs. search needs)
-    (λ c. search needs)
-    (λ c κs. search needs)
-    (λ c. search needs)
-    (λ c κs. search needs)
-    (λ c κs. search needs)
-    (λ c. search needs)
-    returns)
+    (tie.spec (λ c κs. search needs) (λ c κs. search needs) (λ c κs. search needs) (λ c κs. search needs)
+    (λ c κs. search needs) (λ c κs. search needs) (λ c. search needs) returns)

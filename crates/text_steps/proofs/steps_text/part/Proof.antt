@@ -66,15 +66,5 @@ returns-5 c =
 pub part-spec : {M : Type 1} → statement M
 part-spec =
     tie.close
-    (tie.spec
-    returns
-    (λ c κs. search needs)
-    returns-2
-    (λ c κs. search needs)
-    (λ c. search needs)
-    returns-3
-    line-count-requires
-    returns-4
-    put-line-requires
-    (λ c. search needs)
-    returns-5)
+    (tie.spec returns (λ c κs. search needs) returns-2 (λ c κs. search needs) (λ c. search needs) returns-3
+    line-count-requires returns-4 put-line-requires (λ c. search needs) returns-5)

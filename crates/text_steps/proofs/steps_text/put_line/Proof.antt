@@ -62,11 +62,5 @@ returns c =
 pub put-line-spec : {M : Type 1} → statement M
 put-line-spec =
     tie.close
-    (tie.spec
-    line-of-requires
-    steps-requires
-    put-line-head-requires
-    (λ c. search needs)
-    put-steps-requires
-    (λ c. search needs)
-    returns)
+    (tie.spec line-of-requires steps-requires put-line-head-requires (λ c. search needs) put-steps-requires
+    (λ c. search needs) returns)

@@ -14,8 +14,8 @@ returns c =
     let after-put-decimal = after-put-byte .before .before .before .before in
     let after-put-bytes = after-put-decimal .before .before .before .before in
     let at-start = after-put-bytes .before .before .before .before .before in
-    let head-is′ = head-is _ (now (at-start .args .line)) (after-put-ids .before .before .word-at .ensures)
-    (after-put-ids .before .word-at2 .ensures) (after-put-side-steps .before .word-at3 .ensures) (at-start .pre .1) in
+    let head-is′ = head-is _ (now (at-start .args .line)) (after-put-ids .before .before .participant .ensures)
+    (after-put-ids .before .point .ensures) (after-put-side-steps .before .side .ensures) (at-start .pre .1) in
     let then₁ = then (after-put-bytes .put-bytes .ensures) (after-put-decimal .put-decimal .ensures) in
     let then₂ = then (then then₁ (after-put-byte .put-byte .ensures)) (after-put-ids .put-ids .ensures) in
     let then₃ = then (then then₂ (after-put-side-steps .put-side-steps .ensures)) (c .before .before .put-byte2 .ensures) in
@@ -24,16 +24,6 @@ returns c =
 pub put-line-head-spec : {M : Type 1} → statement M
 put-line-head-spec =
     tie.close
-    (tie.spec
-    (λ c. search needs)
-    (λ c κs. search needs)
-    (λ c κs. search needs)
-    (λ c κs. search needs)
-    (λ c κs. search needs)
-    (λ c κs. search needs)
-    (λ c κs. search needs)
-    (λ c κs. search needs)
-    (λ c κs. search needs)
-    (λ c κs. search needs)
-    (λ c. search needs)
-    returns)
+    (tie.spec (λ c. search needs) (λ c κs. search needs) (λ c κs. search needs) (λ c κs. search needs)
+    (λ c κs. search needs) (λ c κs. search needs) (λ c κs. search needs) (λ c κs. search needs) (λ c κs. search needs)
+    (λ c κs. search needs) (λ c. search needs) returns)

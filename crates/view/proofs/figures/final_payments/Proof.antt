@@ -14,8 +14,4 @@ finals-requires c κs = (c .before .pre .0, c .before .pre .1 .pooled (c .if1 .l
 pub final-payments-spec : {M : Type 1} → statement M
 final-payments-spec =
     tie.close
-    (tie.spec
-    (λ c κs. search needs)
-    returns
-    finals-requires
-    (λ c. search needs))
+    (tie.spec (λ c κs. search needs) returns finals-requires (λ c. search needs))

@@ -1,0 +1,13 @@
+-- `layout::market::market_price` meets its contract.
+use mathlib.Core.Path.{_∙_, ap}
+use denote.Ref.{now}
+use borrow.Author.Needs.{needs}
+use Rattle.rules.specs.Layout.{word}
+use Rattle.layout.proofs.market.market_price.Statement.{statement}
+use Rattle.layout.proofs.market.market_price.Tie as tie
+
+returns : tie.Need-returns
+returns c = c .word-at .ensures ∙ ap (word (now (c .before .before .before .args .day))) (c .before .market-place .ensures)
+
+pub market-price-spec : {M : Type 1} → statement M
+market-price-spec = tie.close (tie.spec (λ c κs. search needs) (λ c κs. search needs) returns)

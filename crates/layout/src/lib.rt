@@ -1,0 +1,5 @@
+// Where the fields of a day file stand (document 01, "Units and the day file"), and what reads each: no other crate has an offset.
+pub mod bids;
+pub mod fields;
+pub mod header;
+pub mod market;

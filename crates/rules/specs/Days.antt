@@ -1,0 +1,53 @@
+-- A day file as its steps, from which settling works out everything else (document 01, "Steps and prices", "Quantities", "Payments").
+use Prim.Native.Nat.{ℕ}
+use mathlib.Core.List.{List}
+use Rattle.rules.specs.Fold.{five}
+use Rattle.rules.specs.Layout.{lineCount, marketPrice, clawback, lineAt, participant, point, side}
+use Rattle.rules.specs.Steps.{stepCount, upperEnd, lowerEnd, price, flag, capped, paid}
+use Rattle.rules.specs.Quantities.{pricingTotal, operatingTotal, effectiveActual}
+use Rattle.rules.specs.declared.Step.{Step}
+use Rattle.rules.specs.Payments.{bit, Day}
+
+-- step j of line k of the file d: "In schedule s its price is .. Then, if the cap mark of s is 1, .. the lesser of it and APC"
+unfoldable pub stepPrice : List ℕ → ℕ → ℕ → ℕ → ℕ
+stepPrice d k j s = capped d s (price (lineAt d k) s (upperEnd (lineAt d k) j))
+
+-- "the flag is 1. Otherwise the flag is 0"
+unfoldable pub stepFlag : List ℕ → ℕ → ℕ → ℕ → ℕ
+stepFlag d k j s = flag (lineAt d k) s (upperEnd (lineAt d k) j)
+
+-- "A step is paid if its line is accredited and it isn't hedged"
+unfoldable pub stepPaid : List ℕ → ℕ → ℕ → ℕ → ℕ
+stepPaid d k j s = bit (paid (lineAt d k) (upperEnd (lineAt d k) j) s)
+
+unfoldable pub stepOf : List ℕ → ℕ → ℕ → Step
+stepOf d k j =
+    record {
+      side = side (lineAt d k);
+      lower = lowerEnd (lineAt d k) j;
+      upper = upperEnd (lineAt d k) j;
+      price = five (stepPrice d k j);
+      flag = five (stepFlag d k j);
+      market = five (marketPrice d);
+      paid = five (stepPaid d k j);
+      pricing = five (pricingTotal (lineAt d k));
+      operating = five (operatingTotal (lineAt d k));
+      actual = effectiveActual (lineAt d k);
+    }
+
+-- the lines of the file d, with the steps x
+abbrev pub dayWith : List ℕ → (ℕ → ℕ → Step) → Day
+dayWith d x =
+    record {
+      lines = lineCount d;
+      participant = λ k. participant (lineAt d k);
+      point = λ k. point (lineAt d k);
+      side = λ k. side (lineAt d k);
+      count = λ k. stepCount (lineAt d k);
+      step = x;
+      clawback = clawback d;
+    }
+
+-- with its own steps: the day that settling settles
+abbrev pub settledDay : List ℕ → Day
+settledDay d = dayWith d (stepOf d)

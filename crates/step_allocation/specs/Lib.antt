@@ -1,0 +1,2 @@
+-- The totals of five schedules on one step.
+pub mod Rows

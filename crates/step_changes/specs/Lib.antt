@@ -1,0 +1,2 @@
+-- Rows of five as the code has them.
+pub mod Changes

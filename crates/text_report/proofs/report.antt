@@ -1,2 +1,0 @@
--- Laws that several answers cite.
-pub mod Signs
