@@ -10,7 +10,7 @@ use Rattle.rules.specs.Fold.{joined, five, atZ}
 use Rattle.rules.specs.Refusals.{bookLength}
 use Rattle.rules.specs.Payments.{Day}
 use Rattle.rules.specs.Totals.{linePayment, total, totals, adjusted, adjustedTotal}
-use Rattle.rules.specs.Book.{wordBytes, signedBytes, bookHeader, totalPair, paymentBytes, lineEntry, bookOf}
+use Rattle.rules.specs.Book.{wordBytes, signedBytes, bookHeader, totalPair, lineEntry, bookOf}
 use Rattle.laws.specs.Folds.{joined-length}
 use Rattle.book.specs.Framing.{header-length, pairs-length, entry-length}
 
@@ -36,7 +36,7 @@ frontOf n t a = fourWords n 16 96 (bookLength n) ++ joined 5 (pairBytes t a)
 pub entry-is : (y : Day) (k : ℕ) {p q sd n : ℕ} {v : List ℤ}
     → p ≡ y .participant k → q ≡ y .point k → sd ≡ y .side k → n ≡ y .count k → v ≡ five (λ s. linePayment y s k)
     → entryOf p q sd n (atZ v) ≡ lineEntry y k
-unfolding entryOf lineEntry moneyBytes paymentBytes joined
+unfolding entryOf lineEntry moneyBytes joined
 entry-is y k a b c e f = rw (a, b, c, e, f)
 
 pub front-is : (y : Day) {n : ℕ} {t a : List ℤ} → n ≡ y .lines → t ≡ five (total y) → a ≡ five (adjusted t)

@@ -12,7 +12,7 @@ use Rattle.rules.specs.Refusals.{bookLength, settleFault}
 use Rattle.rules.specs.Payments.{Day}
 use Rattle.rules.specs.Days.{settledDay}
 use Rattle.rules.specs.Totals.{linePayment, total, adjustedTotal}
-use Rattle.rules.specs.Book.{bits64, wordBytes, signedBytes, bookHeader, totalPair, paymentBytes, lineEntry, bookOf, bookAfter}
+use Rattle.rules.specs.Book.{bits64, wordBytes, signedBytes, bookHeader, totalPair, lineEntry, bookOf, bookAfter}
 use Rattle.laws.specs.Folds.{joined-length}
 use Rattle.book.specs.Reading.{Stands, signedAt, stands-own, stands-first, stands-after, stands-joined, le-length, word-stands, signed-stands}
 
@@ -77,8 +77,11 @@ pair-length y s = simp (length-append, le-length)
 pub pairs-length : (y : Day) → length (joined 5 (totalPair y)) ≡ 80
 pairs-length y = joined-length 5 16 (totalPair y) (λ s l. pair-length y s)
 
+-- the payment of line k in s
+abbrev paymentBytes : Day → ℕ → ℕ → List ℕ
+paymentBytes y k s = signedBytes (linePayment y s k)
+
 pub payment-length : (y : Day) (k s : ℕ) → length (paymentBytes y k s) ≡ 8
-unfolding paymentBytes
 payment-length y k s = le-length 8 (bits64 (linePayment y s k))
 
 pub payments-length : (y : Day) (k : ℕ) → length (joined 5 (paymentBytes y k)) ≡ 40
@@ -189,7 +192,7 @@ module _ (y : Day) (rest : List ℕ) where
     book-count h = entry-words k l .word3 h
 
   pub book-payment : (k s : ℕ) → k < y .lines → s < 5 → mag (linePayment y s k) < 2 ^ 63 → bookPayment (bookOf y ++ rest) k s ≡ linePayment y s k
-  unfolding lineEntry paymentBytes
+  unfolding lineEntry
   book-payment k s l g h =
       let words = fourWords (y .participant k) (y .point k) (y .side k) (y .count k) in
       let size = words-length (y .participant k) (y .point k) (y .side k) (y .count k) in

@@ -9,7 +9,7 @@ use lib.Dec.{ltb}
 use borrow.Author.Tests.{lt-leb, le-leb, le-ltb, ltb-true}
 use Rattle.rules.specs.Fold.{before, _orElse_}
 use Rattle.rules.specs.Layout.{lineCount, lineAt}
-use Rattle.rules.specs.Steps.{ends, stepCount, upperEnd, lowerEnd, width}
+use Rattle.rules.specs.Steps.{ends, stepCount, upperEnd, lowerEnd}
 use Rattle.rules.specs.Refusals.{dayFault, cutFault, viewFault, settleFault, bookLength}
 use Rattle.rules.specs.Cutting.{cutOf, cutAnswer, stepPlaces}
 use Rattle.rules.specs.Matching.{matchesOf, matched, tenMatches}
@@ -19,6 +19,7 @@ use Rattle.laws.specs.Accepted.{AcceptedDay, accepted-day}
 use Rattle.laws.specs.Folds.{refuse-false, refuse-true}
 use Rattle.cutter.specs.Arrays.{padded-at}
 use Rattle.cutter.specs.Certificate.{endAt, widthAt}
+use Rattle.step_inputs.specs.Ends.{width}
 use Rattle.certificate.specs.Certificate.{matchesBefore, matchIn}
 
 -- a line of an accepted day has its 660 bytes
@@ -61,7 +62,7 @@ module _ (w : List ℕ) where
   before-at (suc j) = end-at j
 
   pub width-at : (j : ℕ) → widthAt (cutOf w) j ≡ width w j
-  unfolding widthAt width
+  unfolding widthAt
   width-at j = simp (end-at j, before-at j)
 
 -- the ten matches are those of the definition

@@ -9,7 +9,7 @@ use lib.IntN.{pos}
 use lib.Signed.{ltZ}
 use Rattle.rules.specs.Fold.{sumTo, sumZ, at}
 use Rattle.rules.specs.Layout.{word, lineCount, lineAt}
-use Rattle.rules.specs.Steps.{greatestBreak, stepCount, width}
+use Rattle.rules.specs.Steps.{greatestBreak, stepCount}
 use Rattle.rules.specs.Quantities.{pricingTotal, operatingTotal}
 use Rattle.rules.specs.Matching.{rise, fall, matched}
 use Rattle.rules.specs.Payments.{operatingOn, pricingOn, aginoOn, msiqOn, onStep, Day}
@@ -32,7 +32,7 @@ use Rattle.step_quantities.specs.Bounds.{aginoOn-most, msiqOn-most}
 use Rattle.step_quantities.specs.Adding.{stepPricing, stepOperating, pricing-adds-up, operating-adds-up}
 use Rattle.step_matching.specs.Balance.{matchedWith, matchesIn, falls-matched, rises-bound, rises-balance}
 use Rattle.cutter.specs.Certificate.{endAt, widthAt}
-use Rattle.step_inputs.specs.Ends.{line-ends, widths-sum}
+use Rattle.step_inputs.specs.Ends.{width, line-ends, widths-sum}
 use Rattle.step_inputs.specs.Paid.{DaySized, payment-size, day-bounded, settled-sized}
 use Rattle.day_totals.specs.Sums.{sumZ-same}
 use Rattle.day_totals.specs.Money.{linePayments, adjusted-payments, adjusted-order}
@@ -64,7 +64,7 @@ module _ (d : List ℕ) (h : dayFault d ≡ 0) where
         (sum-same (stepCount (lineAt d k)) (λ j. f (view k j)) g (λ j i. ap f (views k j l i) ∙ e j))
 
     widths : (k : ℕ) → k < lineCount d → sumTo (cut k .count) (λ j. view k j .width) ≡ greatestBreak (lineAt d k)
-    unfolding viewOf
+    unfolding viewOf stepOf
     widths k l =
         let a = accepted-line-at d (accepted-day d h) k l in
         steps-sum k l (λ v. v .width) (width (lineAt d k)) (λ j. refl) ∙ widths-sum (lineAt d k) a
@@ -84,12 +84,12 @@ module _ (d : List ℕ) (h : dayFault d ≡ 0) where
         ∙ operating-adds-up d k s g (line-ends (lineAt d k) a) (a .operating-most s g)
 
     same-end : (k j : ℕ) → k < lineCount d → j < cut k .count → endAt (cut k) j ≡ view k j .end
-    unfolding viewOf
+    unfolding viewOf stepOf
     same-end k j l g =
         rw (view-is k j l g, cuts k l) (end-at (lineAt d k) j)
 
     same-width : (k j : ℕ) → k < lineCount d → j < cut k .count → widthAt (cut k) j ≡ view k j .width
-    unfolding viewOf
+    unfolding viewOf stepOf
     same-width k j l g =
         rw (view-is k j l g, cuts k l) (width-at (lineAt d k) j)
 

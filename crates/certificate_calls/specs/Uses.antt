@@ -6,7 +6,7 @@ use lib.ListN.{length}
 use Rattle.rules.specs.Fold.{refuse, _orElse_, first, before, sumTo, mostTo}
 use Rattle.rules.specs.Layout.{lineCount, lineAt}
 use Rattle.rules.specs.Steps.{bidMost, greatestBreak}
-use Rattle.rules.specs.Quantities.{pricingIn, pricingTotal, tableTotal}
+use Rattle.rules.specs.Quantities.{pricingTotal, tableTotal}
 use Rattle.rules.specs.Refusals.{headerFault, marketPriceFault, markFault, marketFault, breakFault, outOfOrder, orderFault, priceFault, unusedFault, bidFault}
 use Rattle.rules.specs.Refusals.{totalFault, actualFault, lineFaultWith, lineFault, lineFaultAt, sameKey, pairFault, keyFault, dayFault}
 use Rattle.rules.specs.Figures.{k10Day}
@@ -24,7 +24,7 @@ use Rattle.certificate.specs.Proof.{certified}
 pub k10-accepted : dayFault k10Day ≡ 0
 unfolding refuse _orElse_ first before sumTo mostTo headerFault marketPriceFault markFault marketFault breakFault
     outOfOrder orderFault priceFault unusedFault bidFault totalFault actualFault lineFaultWith lineFault lineFaultAt sameKey
-    pairFault keyFault dayFault bidMost greatestBreak pricingIn pricingTotal tableTotal le
+    pairFault keyFault dayFault bidMost greatestBreak pricingTotal tableTotal le
 k10-accepted = refl
 
 -- and so it is certified, with its book in any lent one of at least 152 bytes

@@ -12,7 +12,7 @@ use borrow.Author.Tests.{eq-eqb, ne-eqb}
 use Rattle.rules.specs.Steps.{stepCount, upperEnd, lowerEnd}
 use Rattle.rules.specs.Cutting.{cutOf}
 use Rattle.rules.specs.Refusals.{lineFault, lineFaultWith}
-use Rattle.rules.specs.Payments.{Day, ofSide}
+use Rattle.rules.specs.Payments.{Day}
 use Rattle.rules.specs.Days.{stepOf, settledDay}
 use Rattle.rules.specs.declared.Step.{Step}
 use Rattle.rules.specs.declared.Cut.{Cut}
@@ -117,13 +117,13 @@ module _ (d : List ℕ) (a : AcceptedDay d) (k : ℕ) (l : k < lineCount d) wher
 
 -- a side's part of a line
 pub part-other : (d v : List ℕ) (sd k x : ℕ) (r : SidePool) → v ≡ lineAt d k → x ≡ side v → (x ≡ sd → ⊥) → r ≡ noPool → r ≡ sidePart (settledDay d) sd k
-unfolding sidePart ofSide
+unfolding sidePart
 part-other d v sd k x r e xe n re =
     let h : eqb (side (lineAt d k)) sd ≡ false = ne-eqb _ sd (λ z. n (xe ∙ ap side e ∙ z)) in
     re ∙ no-pool (stepPoolAt (settledDay d) k) ∙ rw h
 
 pub part-own : (d v : List ℕ) (sd k x : ℕ) (r : SidePool) → v ≡ lineAt d k → x ≡ side v → x ≡ sd → r ≡ linePool (settledDay d) k → r ≡ sidePart (settledDay d) sd k
-unfolding sidePart ofSide
+unfolding sidePart
 part-own d v sd k x r e xe n re =
     let h : eqb (side (lineAt d k)) sd ≡ true = eq-eqb _ sd (sym (ap side e) ∙ sym xe ∙ n) in
     re ∙ rw h

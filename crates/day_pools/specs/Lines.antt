@@ -9,7 +9,6 @@ use Rattle.rules.specs.Fold.{sumTo, five, at}
 use Rattle.rules.specs.Layout.{quantityMost, priceMost}
 use Rattle.rules.specs.Payments.{finalPayment, Day, poolOf, stepFinal}
 use Rattle.rules.specs.Totals.{linePayment}
-use Rattle.rules.specs.Viewing.{finalIn}
 use Rattle.rules.specs.declared.Step.{Step}
 use Rattle.laws.specs.Folds.{sum-suc, sum-same, at-five}
 use Rattle.laws.specs.Ints.{pl, mi, Split, split-own, split-is}
@@ -33,13 +32,17 @@ pub record PoolFor (y : Day) (sd : ℕ) (p : SidePool) : Type 0 where
 pub record Payable (x : Step) (claw : ℕ) (p : SidePool) : Type 0 where
   pub pooled : (claw ≡ 0 → ⊥) → InPool x p
 
+-- the final payments of step j of line k, by schedule
+abbrev pub finalIn : Day → ℕ → ℕ → ℕ → ℤ
+finalIn y k j s = stepFinal y s k j
+
 -- what step j of line k is paid in the end
 unfoldable pub stepMoney : Day → ℕ → ℕ → Money
 stepMoney y k j = moneyOf (finalIn y k j)
 
 -- the final payments from the pool that the code has are document 01's
 pub final-is : (y : Day) (k j : ℕ) (p : SidePool) → PoolFor y (y .side k) p → (s : ℕ) → s < 5 → finalOn (y .step k j) (y .clawback) p s ≡ finalIn y k j s
-unfolding finalOn finalIn stepFinal
+unfolding finalOn stepFinal
 final-is y k j p h s l =
     elim (ℕ-discrete (y .clawback) 0) [
       | yes e ↦ off-initial (y .step k j) (y .clawback) s (poolAt p s) e ∙ sym (off-initial (y .step k j) (y .clawback) s (poolOf y (y .side k) s) e)
@@ -71,7 +74,7 @@ taken-part = record { step = λ f. refl; sum = λ n f. refl }
 
 module _ (of : Money → List ℕ) (part : ℤ → ℕ) (row : Part of part) (y : Day) where
   step-place : (k j s : ℕ) → s < 5 → at (of (stepMoney y k j)) s ≡ stepAmount part y s k j
-  unfolding stepMoney stepAmount finalIn
+  unfolding stepMoney stepAmount
   step-place k j s l = ap (λ (r : List ℕ). at r s) (row .step _) ∙ at-five (λ t. part (stepFinal y t k j)) 0 s l
 
   pub money-place : (k n s : ℕ) → s < 5 → at (of (moneyTo n (stepMoney y k))) s ≡ sumTo n (stepAmount part y s k)

@@ -2,12 +2,12 @@
 use Prim.Native.Nat.{ℕ, _<_}
 use mathlib.Core.Path.{_≡_, refl, _∙_, ap}
 use mathlib.Core.List.{List}
-use mathlib.Core.Bool.{Bool, true, false, not, cond, _&&_}
-use lib.Dec.{ltb}
+use mathlib.Core.Bool.{Bool, true, false, not, cond}
+use lib.Dec.{eqb, ltb}
 use lib.IntN.{pos}
 use Rattle.rules.specs.Fold.{sumTo, sumZ, someTo, five, at, eqbZ}
 use Rattle.rules.specs.Matching.{rise, fall}
-use Rattle.rules.specs.Payments.{bit, revised, initial, Day, stepRevised, ofSide, lineRevised, poolTotal, paidChange, lineChange, poolChange, poolBase, stepDiffers, lineDiffers, poolDiffers, poolOf}
+use Rattle.rules.specs.Payments.{bit, revised, initial, Day, poolTotal, poolChange, poolBase, poolDiffers, poolOf}
 use Rattle.rules.specs.declared.Step.{Step}
 use Rattle.laws.specs.Folds.{sum-same, sum-none, at-five}
 use Rattle.laws.specs.Ints.{pl, mi, Split, split-own, split-is, split-none}
@@ -17,6 +17,10 @@ use Rattle.step_payments.specs.Amounts as amounts
 use Rattle.step_pool.specs.Amounts.{stepPool, poolAt, differsOn}
 use Rattle.step_inputs.specs.Paid.{stepAt, lineSum}
 use Rattle.day_pools.specs.Sums.{placeOf, rowTo, plusRows, minusRows, risesRows, fallsRows, differsRows, poolTo, sum-split, some-sum}
+
+-- whether line k is of the side
+abbrev pub ofSide : Day → ℕ → ℕ → Bool
+ofSide y sd k = eqb (y .side k) sd
 
 -- step j of line k, line k, and the lines of a side
 unfoldable pub stepPoolAt : Day → ℕ → ℕ → SidePool
@@ -105,18 +109,18 @@ module _ (of : SidePool → List ℕ) (q : Step → ℕ → ℕ) (row : Row of q
 
 -- T
 line-by : (y : Day) (s k : ℕ) (t : Bool)
-    → Split (cond t (sumZ (y .count k) (stepRevised y s k)) (pos 0)) (cond t (lineSum revisedPaid y s k) 0) (cond t (lineSum revisedTaken y s k) 0)
-unfolding lineSum stepAt stepRevised revisedPaid revisedTaken
+    → Split (cond t (sumZ (y .count k) (λ j. revised (y .step k j) s)) (pos 0)) (cond t (lineSum revisedPaid y s k) 0) (cond t (lineSum revisedTaken y s k) 0)
+unfolding lineSum stepAt revisedPaid revisedTaken
 line-by y s k true = sum-split (y .count k) _ _ _ (λ j h. split-own (revised (y .step k j) s))
 line-by y s k false = split-none
 
 total-split : (y : Day) (sd s : ℕ) → Split (poolTotal y sd s) (sideSum revisedPaid y sd s) (sideSum revisedTaken y sd s)
-unfolding poolTotal sideSum lineRevised sideAt
+unfolding poolTotal sideSum sideAt
 total-split y sd s = sum-split (y .lines) _ _ _ (λ k h. line-by y s k (ofSide y sd k))
 
 -- B
 change-is : (change : List ℕ → ℕ → ℕ) (y : Day) (sd s : ℕ) → sideSum (changeOn change) y sd s ≡ poolChange change y sd s
-unfolding sideSum sideAt lineSum stepAt changeOn poolChange lineChange paidChange
+unfolding sideSum sideAt lineSum stepAt changeOn poolChange
 change-is change y sd s = refl
 
 -- "some revised on that side in s differs from its initial"
@@ -124,13 +128,13 @@ bit-is : (t : Bool) → ltb 0 (bit t) ≡ t
 bit-is true = refl
 bit-is false = refl
 
-differs-by : (y : Day) (s k : ℕ) (t : Bool) → ltb 0 (cond t (lineSum differsOn y s k) 0) ≡ t && someTo (y .count k) (stepDiffers y s k)
-unfolding lineSum stepAt differsOn stepDiffers
+differs-by : (y : Day) (s k : ℕ) (t : Bool) → ltb 0 (cond t (lineSum differsOn y s k) 0) ≡ cond t (someTo (y .count k) (λ j. not (eqbZ (revised (y .step k j) s) (initial (y .step k j) s)))) false
+unfolding lineSum stepAt differsOn
 differs-by y s k true = some-sum (y .count k) _ _ (λ j h. bit-is (not (eqbZ (revised (y .step k j) s) (initial (y .step k j) s))))
 differs-by y s k false = refl
 
 differs-is : (y : Day) (sd s : ℕ) → ltb 0 (sideSum differsOn y sd s) ≡ poolDiffers y sd s
-unfolding sideSum sideAt poolDiffers lineDiffers
+unfolding sideSum sideAt poolDiffers
 differs-is y sd s = some-sum (y .lines) _ _ (λ k h. differs-by y s k (ofSide y sd k))
 
 pub pool-is : (y : Day) (sd s : ℕ) → s < 5 → poolAt (sidePool y sd) s ≡ poolOf y sd s

@@ -10,7 +10,7 @@ use borrow.Author.Tests.{eq-eqb}
 use Rattle.rules.specs.Fold.{sumTo, at, eqbZ}
 use Rattle.rules.specs.Layout.{quantityMost, priceMost}
 use Rattle.rules.specs.Matching.{rise, fall}
-use Rattle.rules.specs.Payments.{bit, revised, initial, Day, ofSide}
+use Rattle.rules.specs.Payments.{bit, revised, initial, Day}
 use Rattle.rules.specs.declared.Step.{Step}
 use Rattle.laws.specs.Folds.{sum-most, sum-term, sum-suc, at-five}
 use Rattle.numbers.specs.Fives.{past-five}
@@ -21,7 +21,7 @@ use Rattle.step_pool.specs.Amounts.{sumIn, differsOn, Addable, InPool}
 use Rattle.step_pool.specs.declared.pool_amounts.SidePool.{SidePool}
 use Rattle.step_inputs.specs.Paid.{DaySized, stepAt, lineSum, scaled-most, rises-most, falls-most}
 use Rattle.day_pools.specs.Sums.{rowTo, poolTo}
-use Rattle.day_pools.specs.Sides.{stepPoolAt, linePool, sidePart, sidePool, sideAt, sideSum, Row, revisedPaid, revisedTaken}
+use Rattle.day_pools.specs.Sides.{ofSide, stepPoolAt, linePool, sidePart, sidePool, sideAt, sideSum, Row, revisedPaid, revisedTaken}
 use Rattle.day_pools.specs.Sides.{plus-row, minus-row, rises-row, falls-row, differs-row, steps-place, part-place, lines-place, side-place}
 
 -- fewer terms add up to no more
@@ -132,7 +132,7 @@ module _ (of : SidePool → List ℕ) (q : Step → ℕ → ℕ) (row : Row of q
 
   -- a step's figure is at most its side's
   pub step-within : (k j s : ℕ) → k < y .lines → j < y .count k → s < 5 → q (y .step k j) s ≤ at (of (sidePool y (y .side k))) s
-  unfolding lineSum stepAt sideSum sideAt ofSide
+  unfolding lineSum stepAt sideSum sideAt
   step-within k j s l h i =
       let sd = y .side k in
       let f = stepAt q y s k in

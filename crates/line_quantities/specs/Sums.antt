@@ -4,7 +4,7 @@ use mathlib.Core.Path.{_≡_, refl, ap}
 use mathlib.Core.List.{List, []}
 use Rattle.rules.specs.Fold.{sumTo, at, five}
 use Rattle.rules.specs.Layout.{operatingEntry, actualEntry}
-use Rattle.rules.specs.Quantities.{tableTotal, tableActual, actualIn, operatingTotal, effectiveActual}
+use Rattle.rules.specs.Quantities.{tableTotal, tableActual, operatingTotal, effectiveActual}
 use Rattle.laws.specs.Folds.{at-five}
 
 -- the sum of a row of five
@@ -24,5 +24,5 @@ unfolding tableTotal sumTo
 operating-is w s h = ap (λ (r : List ℕ). sumTo 5 (at r)) (at-five (λ (k : ℕ). five (operatingEntry w k)) [] s h)
 
 pub actual-is : (w : List ℕ) → effectiveActual w ≡ sumTo 5 (λ (i : ℕ). min (operatingEntry w 4 i) (actualEntry w i))
-unfolding tableActual actualIn sumTo
+unfolding tableActual sumTo
 actual-is w = refl

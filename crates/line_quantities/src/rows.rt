@@ -7,7 +7,7 @@ ghost use mathlib.Core.Path.{_≡_};
 ghost use Prim.Native.Nat.{_<_};
 ghost use lib.ListN.{length};
 ghost use Rattle.rules.specs.Fold.{five};
-ghost use Rattle.rules.specs.Layout.{operatingRow, operatingTable, actualEntry};
+ghost use Rattle.rules.specs.Layout.{operatingEntry, operatingTable, actualEntry};
 ghost use Rattle.rules.specs.Quantities.{pricingTotal};
 ghost use Rattle.line_quantities.specs.Words.{fiveWords};
 
@@ -40,7 +40,7 @@ pub fn pricing_totals(line: &[u8]) -> [u64; 5]
 // One row of the operating table.
 pub fn operating_row(line: &[u8], s: usize) -> [u32; 5]
     requires { ⌜ (length (now line) ≡ 660) × (s < 5) ⌝ }
-    ensures { λ r. ⌜ r ≡ operatingRow (now (line .entry)) s ⌝ }
+    ensures { λ r. ⌜ r ≡ five (operatingEntry (now (line .entry)) s) ⌝ }
 {
     [
         operating_entry(line, s, 0),

@@ -37,13 +37,10 @@ unfoldable pub totalPair : Day → ℕ → List ℕ
 totalPair y s = signedBytes (total y s) ++ signedBytes (adjustedTotal y s)
 
 -- "per line participant, point, side, step count and five signed 64-bit payments"
-unfoldable pub paymentBytes : Day → ℕ → ℕ → List ℕ
-paymentBytes y k s = signedBytes (linePayment y s k)
-
 unfoldable pub lineEntry : Day → ℕ → List ℕ
 lineEntry y k =
     wordBytes (y .participant k) ++ wordBytes (y .point k) ++ wordBytes (y .side k) ++ wordBytes (y .count k)
-    ++ joined 5 (paymentBytes y k)
+    ++ joined 5 (λ s. signedBytes (linePayment y s k))
 
 unfoldable pub bookOf : Day → List ℕ
 bookOf y = bookHeader y ++ joined 5 (totalPair y) ++ joined (y .lines) (lineEntry y)

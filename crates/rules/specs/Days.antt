@@ -8,28 +8,17 @@ use Rattle.rules.specs.Quantities.{pricingTotal, operatingTotal, effecti
 use Rattle.rules.specs.declared.Step.{Step}
 use Rattle.rules.specs.Payments.{bit, Day}
 
--- step j of line k of the file d: "In schedule s its price is .. Then, if the cap mark of s is 1, .. the lesser of it and APC"
-unfoldable pub stepPrice : List ℕ → ℕ → ℕ → ℕ → ℕ
-stepPrice d k j s = capped d s (price (lineAt d k) s (upperEnd (lineAt d k) j))
-
--- "the flag is 1. Otherwise the flag is 0"
-unfoldable pub stepFlag : List ℕ → ℕ → ℕ → ℕ → ℕ
-stepFlag d k j s = flag (lineAt d k) s (upperEnd (lineAt d k) j)
-
--- "A step is paid if its line is accredited and it isn't hedged"
-unfoldable pub stepPaid : List ℕ → ℕ → ℕ → ℕ → ℕ
-stepPaid d k j s = bit (paid (lineAt d k) (upperEnd (lineAt d k) j) s)
-
+-- step j of line k of the file d: its price, "Then, if the cap mark of s is 1, .. the lesser of it and APC"; its flag; whether it is paid
 unfoldable pub stepOf : List ℕ → ℕ → ℕ → Step
 stepOf d k j =
     record {
       side = side (lineAt d k);
       lower = lowerEnd (lineAt d k) j;
       upper = upperEnd (lineAt d k) j;
-      price = five (stepPrice d k j);
-      flag = five (stepFlag d k j);
+      price = five (λ s. capped d s (price (lineAt d k) s (upperEnd (lineAt d k) j)));
+      flag = five (λ s. flag (lineAt d k) s (upperEnd (lineAt d k) j));
       market = five (marketPrice d);
-      paid = five (stepPaid d k j);
+      paid = five (λ s. bit (paid (lineAt d k) (upperEnd (lineAt d k) j) s));
       pricing = five (pricingTotal (lineAt d k));
       operating = five (operatingTotal (lineAt d k));
       actual = effectiveActual (lineAt d k);

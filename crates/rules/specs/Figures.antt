@@ -11,15 +11,15 @@ use Rattle.rules.specs.Refusals.{headerFault, marketPriceFault, markFaul
 use Rattle.rules.specs.Refusals.{totalFault, actualFault, lineFaultWith, lineFault, lineFaultAt, sameKey, pairFault, keyFault, dayFault, settleFault}
 use Rattle.rules.specs.Steps.{bidMost, greatestBreak, insert, rising, bidBreaks, hedgePoint, ends, stepCount, upperEnd, lowerEnd, stepFrom, bidStep, price, flag}
 use Rattle.rules.specs.Steps.{capped, hedged, accredited, paid}
-use Rattle.rules.specs.Quantities.{pricingIn, pricingTotal, operatingTotal, tableTotal, tableActual, actualIn, effectiveActual, allocated, leastFrom, lastAgino, agino, beyond, msiqFrom, msiq, constrained}
+use Rattle.rules.specs.Quantities.{pricingTotal, operatingTotal, tableTotal, tableActual, effectiveActual, allocated, leastFrom, lastAgino, agino, beyond, msiqFrom, msiq, constrained}
 use Rattle.rules.specs.Matching.{earlier, rise, fall, takes, leaves, openRises, matchesOf, matched, tenMatches}
 use Rattle.rules.specs.Payments.{operatingOn, pricingOn, actualOn, aginoOn, msiqOn, constrainedOn, onStep, excess, milder, rate, revisedRate, isPaid, initial}
-use Rattle.rules.specs.Payments.{matchedAt, givenBack, initialOr, revised, modified, pooledPayment, isPooled, finalPayment, stepRevised, ofSide, lineRevised, poolTotal}
-use Rattle.rules.specs.Payments.{paidChange, lineChange, poolChange, poolBase, stepDiffers, lineDiffers, poolDiffers, poolOf, stepFinal}
-use Rattle.rules.specs.Days.{stepPrice, stepFlag, stepPaid, stepOf}
+use Rattle.rules.specs.Payments.{givenBack, initialOr, revised, modified, pooledPayment, isPooled, finalPayment, poolTotal}
+use Rattle.rules.specs.Payments.{poolChange, poolBase, poolDiffers, poolOf, stepFinal}
+use Rattle.rules.specs.Days.{stepOf}
 use Rattle.rules.specs.Totals.{linePayment, total, leastSum, adjustedAfter, carried, adjusted, totals, adjustedTotal}
-use Rattle.rules.specs.Book.{le, bits64, bookHeader, totalPair, paymentBytes, lineEntry, bookOf, bookAfter}
-use Rattle.rules.specs.Report.{digits, decimal, signedDecimal, sideText, numberAfter, fiveNumbers, paymentOf, lineText, settledText, refusedLine, reportText}
+use Rattle.rules.specs.Book.{le, bits64, bookHeader, totalPair, lineEntry, bookOf, bookAfter}
+use Rattle.rules.specs.Report.{digits, decimal, signedDecimal, sideText, numberAfter, fiveNumbers, lineText, settledText, refusedLine, reportText}
 
 -- what is worked out, and what document 01 says
 pub record Case : Type 0 where
@@ -140,13 +140,11 @@ pub figures : every cases ≡ true
 unfolding refuse _orElse_ first before sumTo sumZ mostTo someTo joined listTo headerFault marketPriceFault markFault
     marketFault breakFault outOfOrder orderFault priceFault unusedFault bidFault totalFault actualFault lineFaultWith lineFault
     lineFaultAt sameKey pairFault keyFault dayFault settleFault bidMost greatestBreak insert rising bidBreaks
-    hedgePoint ends stepCount upperEnd lowerEnd stepFrom bidStep price flag capped hedged accredited paid pricingIn
-    pricingTotal tableTotal actualIn tableActual allocated leastFrom lastAgino agino beyond msiqFrom msiq
+    hedgePoint ends stepCount upperEnd lowerEnd stepFrom bidStep price flag capped hedged accredited paid
+    pricingTotal tableTotal tableActual allocated leastFrom lastAgino agino beyond msiqFrom msiq
     constrained earlier rise fall takes leaves openRises matchesOf matched tenMatches operatingOn pricingOn actualOn
-    aginoOn msiqOn constrainedOn onStep excess milder rate revisedRate isPaid initial matchedAt givenBack initialOr
-    revised modified pooledPayment isPooled finalPayment stepPrice stepFlag stepPaid stepOf stepRevised ofSide
-    lineRevised poolTotal paidChange lineChange poolChange poolBase stepDiffers lineDiffers poolDiffers poolOf
-    stepFinal linePayment total leastSum adjustedAfter carried adjusted totals adjustedTotal le bookHeader totalPair
-    paymentBytes lineEntry bookOf bookAfter digits decimal signedDecimal sideText numberAfter fiveNumbers paymentOf
+    aginoOn msiqOn constrainedOn onStep excess milder rate revisedRate isPaid initial givenBack initialOr
+    revised modified pooledPayment isPooled finalPayment stepOf poolTotal poolChange poolBase poolDiffers poolOf stepFinal linePayment total leastSum adjustedAfter carried adjusted totals adjustedTotal le bookHeader totalPair
+    lineEntry bookOf bookAfter digits decimal signedDecimal sideText numberAfter fiveNumbers
     lineText settledText refusedLine reportText
 figures = refl

@@ -117,11 +117,8 @@ pricingEntry w r i = field w (120 + (pricingRow r + (i - r)))
 abbrev pub operatingEntry : List ℕ → ℕ → ℕ → ℕ
 operatingEntry w s i = field w (135 + (5 * s + i))
 
-abbrev pub operatingRow : List ℕ → ℕ → List ℕ
-operatingRow w s = five (operatingEntry w s)
-
 abbrev pub operatingTable : List ℕ → List (List ℕ)
-operatingTable w = five (operatingRow w)
+operatingTable w = five (λ s. five (operatingEntry w s))
 
 -- "five actuals"
 abbrev pub actualEntry : List ℕ → ℕ → ℕ

@@ -1,7 +1,7 @@
 -- Document 01, "Payments" (FD 8.4, 8.5): the figures of one step, then those of a day as its steps.
 use Prim.Native.Nat.{ℕ, _*_, _-_, min, max}
 use mathlib.Core.List.{List}
-use mathlib.Core.Bool.{Bool, not, cond, _&&_, _||_}
+use mathlib.Core.Bool.{Bool, false, not, cond, _&&_, _||_}
 use lib.Dec.{eqb}
 use lib.IntN.{ℤ, pos, negℤ, subℕ, _-ℤ_, _*ℤ_}
 use lib.Signed.{ltZ, leZ, nonNeg, quotZ}
@@ -63,11 +63,8 @@ unfoldable pub initial : Step → ℕ → ℤ
 initial x s = cond (isPaid x s) (subℕ (at (onStep x) s) (earlier (onStep x) s) *ℤ pos (rate x s)) (pos 0)
 
 -- what matches give back: m(r, s) times a rate of r, summed over r before s
-unfoldable pub matchedAt : Step → ℕ → (ℕ → ℕ) → ℕ → ℕ
-matchedAt x s f r = matched (onStep x) s r * f r
-
 unfoldable pub givenBack : Step → ℕ → (ℕ → ℕ) → ℕ
-givenBack x s f = sumTo s (matchedAt x s f)
+givenBack x s f = sumTo s (λ r. matched (onStep x) s r * f r)
 
 -- the initial payment if that is at least 0, else minus what is given back at these rates
 unfoldable pub initialOr : Step → ℕ → (ℕ → ℕ) → ℤ
@@ -118,41 +115,24 @@ pub record Day : Type 0 where
   pub step : ℕ → ℕ → Step
   pub clawback : ℕ
 
--- "T be the sum of revised over all steps of that side in s": of one step, one line, all lines
-unfoldable pub stepRevised : Day → ℕ → ℕ → ℕ → ℤ
-stepRevised y s k j = revised (y .step k j) s
+-- "over all steps of that side": a sum or search, over the lines and over a line's steps, of what f gives; none for a line of the other side
+abbrev pub overSide : {A : Type 0} → (ℕ → (ℕ → A) → A) → A → Day → ℕ → (Step → A) → A
+overSide fold none y sd f = fold (y .lines) (λ k. cond (eqb (y .side k) sd) (fold (y .count k) (λ j. f (y .step k j))) none)
 
-unfoldable pub ofSide : Day → ℕ → ℕ → Bool
-ofSide y sd k = eqb (y .side k) sd
-
-unfoldable pub lineRevised : Day → ℕ → ℕ → ℕ → ℤ
-lineRevised y sd s k = cond (ofSide y sd k) (sumZ (y .count k) (stepRevised y s k)) (pos 0)
-
+-- "T be the sum of revised over all steps of that side in s"
 unfoldable pub poolTotal : Day → ℕ → ℕ → ℤ
-poolTotal y sd s = sumZ (y .lines) (lineRevised y sd s)
+poolTotal y sd s = overSide sumZ (pos 0) y sd (λ x. revised x s)
 
 -- "B the greater of two sums over that side's paid steps in s, of the rises U(s) and of the falls D(s)"
-unfoldable pub paidChange : (List ℕ → ℕ → ℕ) → Day → ℕ → ℕ → ℕ → ℕ
-paidChange change y s k j = cond (isPaid (y .step k j) s) (change (onStep (y .step k j)) s) 0
-
-unfoldable pub lineChange : (List ℕ → ℕ → ℕ) → Day → ℕ → ℕ → ℕ → ℕ
-lineChange change y sd s k = cond (ofSide y sd k) (sumTo (y .count k) (paidChange change y s k)) 0
-
 unfoldable pub poolChange : (List ℕ → ℕ → ℕ) → Day → ℕ → ℕ → ℕ
-poolChange change y sd s = sumTo (y .lines) (lineChange change y sd s)
+poolChange change y sd s = overSide sumTo 0 y sd (λ x. cond (isPaid x s) (change (onStep x) s) 0)
 
 unfoldable pub poolBase : Day → ℕ → ℕ → ℕ
 poolBase y sd s = max (poolChange rise y sd s) (poolChange fall y sd s)
 
 -- "some revised on that side in s differs from its initial"
-unfoldable pub stepDiffers : Day → ℕ → ℕ → ℕ → Bool
-stepDiffers y s k j = not (eqbZ (revised (y .step k j) s) (initial (y .step k j) s))
-
-unfoldable pub lineDiffers : Day → ℕ → ℕ → ℕ → Bool
-lineDiffers y sd s k = ofSide y sd k && someTo (y .count k) (stepDiffers y s k)
-
 unfoldable pub poolDiffers : Day → ℕ → ℕ → Bool
-poolDiffers y sd s = someTo (y .lines) (lineDiffers y sd s)
+poolDiffers y sd s = overSide someTo false y sd (λ x. not (eqbZ (revised x s) (initial x s)))
 
 unfoldable pub poolOf : Day → ℕ → ℕ → Pool
 poolOf y sd s =

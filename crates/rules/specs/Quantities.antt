@@ -8,22 +8,16 @@ use Rattle.rules.specs.Fold.{sumTo, at}
 use Rattle.rules.specs.Layout.{pricingEntry, operatingTable, actualEntry, withdrawal}
 
 -- "Pricing total of s: the sum over intervals i of the entry for i in row min(s, i)" (FD 5.1.1)
-unfoldable pub pricingIn : List ℕ → ℕ → ℕ → ℕ
-pricingIn w s i = pricingEntry w (min s i) i
-
 unfoldable pub pricingTotal : List ℕ → ℕ → ℕ
-pricingTotal w s = sumTo 5 (pricingIn w s)
+pricingTotal w s = sumTo 5 (λ i. pricingEntry w (min s i) i)
 
 -- "Operating total: the sum of the whole operating row s" (FD 5.2.1), of a table of operating quantities
 unfoldable pub tableTotal : List (List ℕ) → ℕ → ℕ
 tableTotal t s = sumTo 5 (at (getD t s []))
 
 -- "Effective actual: the sum over intervals of the lesser of operating row 5 and the actual" (FD 6.1.1, 6.2.1), with that table
-unfoldable pub actualIn : List (List ℕ) → List ℕ → ℕ → ℕ
-actualIn t w i = min (at (getD t 4 []) i) (actualEntry w i)
-
 unfoldable pub tableActual : List (List ℕ) → List ℕ → ℕ
-tableActual t w = sumTo 5 (actualIn t w)
+tableActual t w = sumTo 5 (λ i. min (at (getD t 4 []) i) (actualEntry w i))
 
 -- the same with a line's own table
 abbrev pub operatingTotal : List ℕ → ℕ → ℕ

@@ -63,13 +63,10 @@ unfoldable pub fiveNumbers : (ℕ → ℤ) → List ℕ
 fiveNumbers f = joined 5 (numberAfter f) ++ lineFeed
 
 -- "participant, point, INJ or WDR, steps, five payments": of line k
-unfoldable pub paymentOf : Day → ℕ → ℕ → ℤ
-paymentOf y k s = linePayment y s k
-
 unfoldable pub lineText : Day → ℕ → List ℕ
 lineText y k =
     decimal (y .participant k) ++ space ++ decimal (y .point k) ++ space ++ sideText (y .side k) ++ space ++ decimal (y .count k)
-    ++ fiveNumbers (paymentOf y k)
+    ++ fiveNumbers (λ s. linePayment y s k)
 
 -- "line count; participant, point, INJ or WDR, steps, five payments; t; a"
 unfoldable pub settledText : Day → List ℕ

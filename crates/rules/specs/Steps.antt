@@ -44,10 +44,6 @@ upperEnd w j = getD (ends w) j 0
 unfoldable pub lowerEnd : List ℕ → ℕ → ℕ
 lowerEnd w j = getD (0 ∷ ends w) j 0
 
--- "A step's width is its upper end less the one before"
-unfoldable pub width : List ℕ → ℕ → ℕ
-width w j = upperEnd w j - lowerEnd w j
-
 -- "the first bid step whose break is at least its upper end": of the m bid steps from j on, and j + m where there is none
 unfoldable pub stepFrom : (ℕ → ℕ) → ℕ → ℕ → ℕ → ℕ
 stepFrom br u j zero = j

@@ -1,44 +1,43 @@
 -- Document 01, "Totals and book": the step view's whole answer.
-use Prim.Native.Nat.{ℕ}
+use Prim.Native.Nat.{ℕ, _-_}
 use mathlib.Core.List.{List}
 use mathlib.Core.Bool.{cond}
 use lib.ListN.{replicate}
 use lib.Dec.{eqb}
 use lib.IntN.{ℤ, pos}
 use Rattle.rules.specs.Fold.{five}
-use Rattle.rules.specs.Layout.{lineAt}
-use Rattle.rules.specs.Steps.{upperEnd, width}
 use Rattle.rules.specs.Refusals.{viewFault}
 use Rattle.rules.specs.Matching.{tenMatches}
-use Rattle.rules.specs.Payments.{operatingOn, pricingOn, actualOn, aginoOn, msiqOn, onStep, initial, revised, modified, Day, stepFinal}
-use Rattle.rules.specs.Days.{stepPrice, stepFlag, stepOf, settledDay}
+use Rattle.rules.specs.Payments.{operatingOn, pricingOn, actualOn, aginoOn, msiqOn, onStep, initial, revised, modified, stepFinal}
+use Rattle.rules.specs.Days.{stepOf, settledDay}
+use Rattle.rules.specs.declared.Step.{Step}
 use Rattle.rules.specs.declared.View.{View}
 
--- the final payments of step j of line k, by schedule
-unfoldable pub finalIn : Day → ℕ → ℕ → ℕ → ℤ
-finalIn y k j s = stepFinal y s k j
-
--- "For all schedules it answers upper end, width, price, flag, O, E, A, AGINO, MSIQ, C, the ten matches and the four kinds of payment"
-unfoldable pub viewOf : List ℕ → ℕ → ℕ → View
-viewOf d k j =
+-- "For all schedules it answers upper end, width, price, flag, O, E, A, AGINO, MSIQ, C, the ten matches and the four kinds of payment":
+-- of a step, with its final payments. "A step's width is its upper end less the one before" (document 01, "Steps and prices")
+abbrev pub figuresOf : Step → List ℤ → View
+figuresOf x finals =
     record {
       number = 0;
-      end = upperEnd (lineAt d k) j;
-      width = width (lineAt d k) j;
-      actual = actualOn (stepOf d k j);
-      price = five (stepPrice d k j);
-      flag = five (stepFlag d k j);
-      operating = five (operatingOn (stepOf d k j));
-      pricing = five (pricingOn (stepOf d k j));
-      agino = five (aginoOn (stepOf d k j));
-      msiq = five (msiqOn (stepOf d k j));
-      constrained = onStep (stepOf d k j);
-      matches = tenMatches (onStep (stepOf d k j));
-      initial = five (initial (stepOf d k j));
-      revised = five (revised (stepOf d k j));
-      modified = five (modified (stepOf d k j));
-      finals = five (finalIn (settledDay d) k j);
+      end = x .upper;
+      width = x .upper - x .lower;
+      actual = actualOn x;
+      price = x .price;
+      flag = x .flag;
+      operating = five (operatingOn x);
+      pricing = five (pricingOn x);
+      agino = five (aginoOn x);
+      msiq = five (msiqOn x);
+      constrained = onStep x;
+      matches = tenMatches (onStep x);
+      initial = five (initial x);
+      revised = five (revised x);
+      modified = five (modified x);
+      finals = finals;
     }
+
+unfoldable pub viewOf : List ℕ → ℕ → ℕ → View
+viewOf d k j = figuresOf (stepOf d k j) (five (λ s. stepFinal (settledDay d) s k j))
 
 -- "A refused cutter or view answers the number and zeros"
 unfoldable pub viewRefused : ℕ → View

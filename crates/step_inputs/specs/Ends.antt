@@ -5,12 +5,16 @@ use mathlib.Core.Path.{_≡_, _∙_, ap}
 use mathlib.Core.List.{List}
 use Rattle.rules.specs.Fold.{sumTo}
 use Rattle.rules.specs.Quantities.{allocated}
-use Rattle.rules.specs.Steps.{greatestBreak, ends, stepCount, upperEnd, lowerEnd, width}
+use Rattle.rules.specs.Steps.{greatestBreak, ends, stepCount, upperEnd, lowerEnd}
 use Rattle.laws.specs.Accepted.{AcceptedLine}
 use Rattle.laws.specs.Folds.{sum-same}
 use Rattle.cutter.specs.Lists.{rises-at, in-at}
 use Rattle.cutter.specs.Ends.{ends-rise, end-of, end-most, count-some, last-is}
 use Rattle.step_quantities.specs.Adding.{RisingEnds, allocatedBetween, steps-add-up}
+
+-- a step's width
+abbrev pub width : List ℕ → ℕ → ℕ
+width w j = upperEnd w j - lowerEnd w j
 
 -- what stands before the end of n steps is the last one's upper end
 lower-last : (w : List ℕ) (n : ℕ) → 0 < n → lowerEnd w n ≡ upperEnd w (n - 1)
@@ -35,7 +39,7 @@ module _ (w : List ℕ) (a : AcceptedLine w) where
   upper-most j l = end-most w a (upperEnd w j) (end-of w (upperEnd w j) (in-at (ends w) j l))
 
   width-is : (j : ℕ) → j < stepCount w → width w j ≡ allocatedBetween (greatestBreak w) (lowerEnd w) j
-  unfolding width allocatedBetween allocated lowerEnd upperEnd
+  unfolding allocatedBetween allocated lowerEnd upperEnd
   width-is j l = let u = upper-most j l in omega arith
 
   pub widths-sum : sumTo (stepCount w) (width w) ≡ greatestBreak w

@@ -15,7 +15,7 @@ use Rattle.rules.specs.Matching.{earlier, rise, fall}
 use Rattle.rules.specs.declared.Step.{Step}
 use Rattle.rules.specs.Payments.{onStep, isPaid, Day, poolOf, stepFinal}
 use Rattle.rules.specs.Totals.{linePayment, totals}
-use Rattle.rules.specs.Days.{stepPrice, stepOf, settledDay}
+use Rattle.rules.specs.Days.{stepOf, settledDay}
 use Rattle.laws.specs.Accepted.{AcceptedBid, AcceptedLine, AcceptedDay, accepted-line-at}
 use Rattle.laws.specs.Folds.{sum-none, sum-suc, sum-le, sum-most, sumZ-none, sumZ-suc}
 use Rattle.laws.specs.Ints.{pl, mi, apart, pl-add, mi-add}
@@ -152,12 +152,12 @@ module _ (d : List ℕ) (a : AcceptedDay d) where
     line = accepted-line-at d a k l
 
     sized : (j : ℕ) → j < stepCount w → Sized (stepOf d k j)
-    unfolding stepOf stepPrice capped
+    unfolding stepOf capped
     sized j g =
         record {
           upper = omega (arith, upper-most w line j g, most-limit w line);
           prices =
-              five-most (stepPrice d k j) priceMost
+              five-most (λ s. capped d s (price w s (upperEnd w j))) priceMost
               (λ s i. capped-by (eqb (capMark d s) 1) (price w s (upperEnd w j)) (priceCap d) priceMost (price-most w s (upperEnd w j) (line .bids s i)));
           markets = five-most (marketPrice d) priceMost (λ s i. a .market .price-most s i);
         }

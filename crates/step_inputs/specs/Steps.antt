@@ -8,8 +8,8 @@ use Rattle.rules.specs.Fold.{five}
 use Rattle.rules.specs.Layout.{lineAt, operatingTable}
 use Rattle.rules.specs.Steps.{ends, stepCount, upperEnd, lowerEnd, price, flag, capped, paid, accredited, hedged}
 use Rattle.rules.specs.Cutting.{cutOf, flagWord, priceRow, prices, flags}
-use Rattle.rules.specs.Quantities.{tableTotal, tableActual, actualIn}
-use Rattle.rules.specs.Days.{stepOf, stepPrice, stepFlag, stepPaid}
+use Rattle.rules.specs.Quantities.{tableTotal, tableActual}
+use Rattle.rules.specs.Days.{stepOf}
 use Rattle.laws.specs.Folds.{sum-le, at-five, same-five}
 use Rattle.laws.specs.Accepted.{AcceptedLine}
 use Rattle.cutter.specs.Arrays.{bitAt, priceIn, flagIn, bits-at, padded-at, padded-length, rows-at}
@@ -20,9 +20,9 @@ use Rattle.step_inputs.specs.Terms.{cappedAt, cappedIn, paidOn, paidIn}
 
 -- the parts of `stepOf`, with the cutter's rows
 step-parts : (d : List ℕ) (k j : ℕ) (p f : List ℕ)
-    → p ≡ five (λ s. price (lineAt d k) s (upperEnd (lineAt d k) j)) → f ≡ five (stepFlag d k j)
+    → p ≡ five (λ s. price (lineAt d k) s (upperEnd (lineAt d k) j)) → f ≡ five (λ s. flag (lineAt d k) s (upperEnd (lineAt d k) j))
     → stepWith (marketOf d) (totalsOf (operatingTable (lineAt d k)) (lineAt d k)) (lowerEnd (lineAt d k) j) (upperEnd (lineAt d k) j) p f ≡ stepOf d k j
-unfolding stepWith marketOf totalsOf cappedIn cappedAt paidIn paidOn stepOf stepPrice stepPaid capped paid accredited hedged
+unfolding stepWith marketOf totalsOf cappedIn cappedAt paidIn paidOn stepOf capped paid accredited hedged
 step-parts d k j p f a b = rw (a, b)
 
 -- rows of the cutter's answer
@@ -51,7 +51,6 @@ pub step-is : (d : List ℕ) (k j : ℕ) → AcceptedLine (lineAt d k) → j < s
     → stepWith (marketOf d) (totalsOf (operatingTable (lineAt d k)) (lineAt d k)) (lowerEnd (lineAt d k) j) (upperEnd (lineAt d k) j)
     (five (priceIn (cutOf (lineAt d k) .prices) j)) (five (flagIn (cutOf (lineAt d k) .flags) j))
     ≡ stepOf d k j
-unfolding stepFlag
 step-is d k j h l =
     let w = lineAt d k in
     let p = price-is w h j l in
@@ -62,5 +61,5 @@ step-is d k j h l =
 
 -- the effective actual is at most the last operating total
 pub actual-most : (t : List (List ℕ)) (w : List ℕ) → tableActual t w ≤ tableTotal t 4
-unfolding tableActual tableTotal actualIn
+unfolding tableActual tableTotal
 actual-most t w = sum-le 5 _ _ (λ i l. omega arith)

@@ -6,7 +6,7 @@ use mathlib.Core.Bool.{Bool, true, false, cond}
 use Rattle.rules.specs.Fold.{sumTo, at, before}
 use Rattle.rules.specs.Layout.{quantityMost, priceMost, withdrawal}
 use Rattle.rules.specs.Matching.{earlier, rise, fall, matched}
-use Rattle.rules.specs.Payments.{onStep, excess, milder, rate, revisedRate, matchedAt, givenBack}
+use Rattle.rules.specs.Payments.{onStep, excess, milder, rate, revisedRate, givenBack}
 use Rattle.rules.specs.declared.Step.{Step}
 use Rattle.laws.specs.Folds.{sum-none, sum-suc}
 use Rattle.step_quantities.specs.Bounds.{onStep-upper}
@@ -55,8 +55,11 @@ unfolding fall
 fall-most x s = omega (arith, fall-by x s)
 
 -- what n matches give back at rates of at most b
+-- m(r, s) times a rate of r
+abbrev pub matchedAt : Step → ℕ → (ℕ → ℕ) → ℕ → ℕ
+matchedAt x s f r = matched (onStep x) s r * f r
+
 part-most : (x : Step) (s n b : ℕ) (f : ℕ → ℕ) → ((r : ℕ) → f r ≤ b) → sumTo n (matchedAt x s f) ≤ sumTo n (matched (onStep x) s) * b
-unfolding matchedAt
 part-most x s zero b f h = rw (sum-none (matchedAt x s f)) (omega arith)
 part-most x s (suc n) b f h =
     let m = matched (onStep x) s in

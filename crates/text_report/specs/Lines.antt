@@ -6,8 +6,9 @@ use lib.IntN.{ℤ}
 use borrow.Author.Tests.{eq-eqb, ne-eqb}
 use Rattle.rules.specs.Fold.{joined, five, atZ}
 use Rattle.rules.specs.Payments.{Day}
+use Rattle.rules.specs.Totals.{linePayment}
 use Rattle.rules.specs.Report.{decimal, dayText, injectionText, withdrawalText, totalText, adjustedText, space, lineFeed, sideText}
-use Rattle.rules.specs.Report.{numberAfter, fiveNumbers, paymentOf, lineText}
+use Rattle.rules.specs.Report.{numberAfter, fiveNumbers, lineText}
 use Rattle.text.specs.Rows.{numbers, five-is}
 
 -- participant and point; side and steps
@@ -36,11 +37,11 @@ totalsText t a = totalText ++ fiveNumbers t ++ adjustedText ++ fiveNumbers a
 regroup : (x s t u v w : List ℕ) → x ++ s ++ t ++ u ++ v ++ w ≡ x ++ (s ++ t ++ u ++ v) ++ w
 regroup x s t u v w = simp append-assoc
 
-pub line-of : (y : Day) (k : ℕ) → lineText y k ≡ lineTextOf (y .participant k) (y .point k) (y .side k) (y .count k) (paymentOf y k)
+pub line-of : (y : Day) (k : ℕ) → lineText y k ≡ lineTextOf (y .participant k) (y .point k) (y .side k) (y .count k) (λ s. linePayment y s k)
 unfolding lineText lineTextOf lineIds sideSteps
 line-of y k =
     regroup (decimal (y .participant k) ++ space ++ decimal (y .point k)) space (sideText (y .side k)) space (decimal (y .count k))
-    (fiveNumbers (paymentOf y k))
+    (fiveNumbers (λ s. linePayment y s k))
 
 pub line-is : (p q sd n : ℕ) (f : ℕ → ℤ) → lineStart p q sd n f ++ lineFeed ≡ lineTextOf p q sd n f
 unfolding lineStart lineTextOf

@@ -13,9 +13,9 @@ use Rattle.rules.specs.Layout.{mostLines, lineCount}
 use Rattle.rules.specs.Refusals.{bookLength, dayFault, settleFault}
 use Rattle.rules.specs.Payments.{Day}
 use Rattle.rules.specs.Days.{settledDay}
-use Rattle.rules.specs.Totals.{total, adjustedTotal}
+use Rattle.rules.specs.Totals.{linePayment, total, adjustedTotal}
 use Rattle.rules.specs.Book.{bookOf, bookAfter}
-use Rattle.rules.specs.Report.{totalText, adjustedText, numberAfter, fiveNumbers, paymentOf, lineText, settledText, refusedLine, reportText}
+use Rattle.rules.specs.Report.{totalText, adjustedText, numberAfter, fiveNumbers, lineText, settledText, refusedLine, reportText}
 use Rattle.laws.specs.Folds.{refuse-false, orElse-zero, orElse-suc}
 use Rattle.laws.specs.Accepted.{accepted-day}
 use Rattle.text.specs.Put.{joined-same}
@@ -38,14 +38,14 @@ module _ (y : Day) (rest : List ℕ) (fits : InRange y) where
   book = bookOf y ++ rest
 
   line-back : (k : ℕ) → k < y .lines → entryText book k ≡ lineText y k
-  unfolding entryText lineTextOf paymentOf
+  unfolding entryText lineTextOf
   line-back k h =
       rw (
         book-participant y rest k h (fits .participants k h),
         book-point y rest k h (fits .points k h),
         book-side y rest k h (fits .sides k h),
         book-count y rest k h (fits .counts k h),
-        five-equal (bookPayment book k) (paymentOf y k) (λ s g. book-payment y rest k s h g (fits .payments k s h g)),
+        five-equal (bookPayment book k) (λ s. linePayment y s k) (λ s g. book-payment y rest k s h g (fits .payments k s h g)),
       )
       (sym (line-of y k))
 

@@ -8,12 +8,12 @@ use lib.Dec.{eqb}
 use borrow.Author.Tests.{eq-eqb, ne-eqb, le-leb, lt-leb}
 use Rattle.rules.specs.Fold.{five}
 use Rattle.rules.specs.Layout.{lineCount, lineAt, side, clawback}
-use Rattle.rules.specs.Steps.{stepCount, width}
+use Rattle.rules.specs.Steps.{stepCount}
 use Rattle.rules.specs.Refusals.{dayFault, viewFault}
 use Rattle.rules.specs.Matching.{tenMatches}
-use Rattle.rules.specs.Payments.{operatingOn, pricingOn, actualOn, aginoOn, msiqOn, onStep, initial, revised, modified}
+use Rattle.rules.specs.Payments.{operatingOn, pricingOn, actualOn, aginoOn, msiqOn, onStep, initial, revised, modified, stepFinal}
 use Rattle.rules.specs.Days.{stepOf, settledDay}
-use Rattle.rules.specs.Viewing.{finalIn, viewOf, viewRefused, viewAnswer}
+use Rattle.rules.specs.Viewing.{figuresOf, viewOf, viewRefused, viewAnswer}
 use Rattle.rules.specs.declared.Step.{Step}
 use Rattle.rules.specs.declared.View.{View}
 use Rattle.laws.specs.Folds.{stops, passes, ends-at, none-at, part-stops, part-passes}
@@ -23,49 +23,14 @@ use Rattle.step_pool.specs.Amounts.{finalOn}
 use Rattle.day_pools.specs.Lines.{PoolFor, final-is}
 
 unfoldable pub viewFrom : Step → ℕ → SidePool → View
-viewFrom x claw p =
-    record {
-      number = 0;
-      end = x .upper;
-      width = x .upper - x .lower;
-      actual = actualOn x;
-      price = x .price;
-      flag = x .flag;
-      operating = five (operatingOn x);
-      pricing = five (pricingOn x);
-      agino = five (aginoOn x);
-      msiq = five (msiqOn x);
-      constrained = onStep x;
-      matches = tenMatches (onStep x);
-      initial = five (initial x);
-      revised = five (revised x);
-      modified = five (modified x);
-      finals = five (finalOn x claw p);
-    }
+viewFrom x claw p = figuresOf x (five (finalOn x claw p))
 
 -- of step j of line k they are the view's
 pub view-is : (d : List ℕ) (k j : ℕ) (p : SidePool) → PoolFor (settledDay d) (side (lineAt d k)) p → viewFrom (stepOf d k j) (clawback d) p ≡ viewOf d k j
-unfolding viewFrom viewOf width stepOf
+unfolding viewFrom viewOf
 view-is d k j p h =
-    let e = five-same (finalOn (stepOf d k j) (clawback d) p) (finalIn (settledDay d) k j) (final-is (settledDay d) k j p h) in
-    λ i. record {
-      number = 0;
-      end = viewOf d k j .end;
-      width = viewOf d k j .width;
-      actual = viewOf d k j .actual;
-      price = viewOf d k j .price;
-      flag = viewOf d k j .flag;
-      operating = viewOf d k j .operating;
-      pricing = viewOf d k j .pricing;
-      agino = viewOf d k j .agino;
-      msiq = viewOf d k j .msiq;
-      constrained = viewOf d k j .constrained;
-      matches = viewOf d k j .matches;
-      initial = viewOf d k j .initial;
-      revised = viewOf d k j .revised;
-      modified = viewOf d k j .modified;
-      finals = e i;
-    }
+    let e = five-same (finalOn (stepOf d k j) (clawback d) p) (λ s. stepFinal (settledDay d) s k j) (final-is (settledDay d) k j p h) in
+    λ i. figuresOf (stepOf d k j) (e i)
 
 -- the answer, refusal by refusal
 module _ (d : List ℕ) (k j x : ℕ) (number : x ≡ dayFault d) where

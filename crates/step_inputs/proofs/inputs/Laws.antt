@@ -8,7 +8,7 @@ use Rattle.rules.specs.Fold.{five, at, sumTo}
 use Rattle.rules.specs.Layout as layout
 use Rattle.rules.specs.Layout.{operatingTable, actualEntry}
 use Rattle.rules.specs.Steps.{greatestBreak, upperEnd, lowerEnd}
-use Rattle.rules.specs.Quantities.{pricingTotal, tableTotal, tableActual, actualIn}
+use Rattle.rules.specs.Quantities.{pricingTotal, tableTotal, tableActual}
 use Rattle.rules.specs.Refusals.{lineFaultWith}
 use Rattle.rules.specs.Cutting.{cutOf}
 use Rattle.rules.specs.Days.{stepOf}
@@ -45,7 +45,7 @@ module _ (t : List (List ℕ)) (w : List ℕ) (z : lineFaultWith t w ≡ 0) wher
 
   -- the effective actual from the table's last row
   pub actual-is : (a : List ℕ) (x : ℕ) → a ≡ five (actualEntry w) → x ≡ lesserSum (getD t 4 []) a → x ≡ tableActual t w
-  unfolding lesserSum lesserAt tableActual actualIn sumTo
+  unfolding lesserSum lesserAt tableActual sumTo
   actual-is a x h g = g ∙ rw h
 
   pub actual-narrow : (x : ℕ) → x ≡ tableActual t w → x < 2 ^ 32

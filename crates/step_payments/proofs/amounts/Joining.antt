@@ -10,14 +10,14 @@ use lib.Dec.{eqb}
 use Rattle.rules.specs.Fold.{sumTo, five}
 use Rattle.rules.specs.Layout.{quantityMost, priceMost}
 use Rattle.rules.specs.Matching.{rise, fall, matched}
-use Rattle.rules.specs.Payments.{onStep, rate, revisedRate, isPaid, initial, revised, modified, matchedAt, givenBack}
+use Rattle.rules.specs.Payments.{onStep, rate, revisedRate, isPaid, initial, revised, modified, givenBack}
 use Rattle.rules.specs.declared.Step.{Step}
 use Rattle.laws.specs.Folds.{sum-suc, sum-same, at-five}
 use Rattle.laws.specs.Ints.{pl, mi}
 use Rattle.numbers.specs.Fives.{five-same}
 use Rattle.step_matching.specs.Ledgers.{matchRow}
 use Rattle.step_matching.specs.Balance.{matched-out}
-use Rattle.step_payments.specs.Sizes.{Sized, rate-most, revisedRate-most, fall-most, givenBack-most}
+use Rattle.step_payments.specs.Sizes.{Sized, matchedAt, rate-most, revisedRate-most, fall-most, givenBack-most}
 use Rattle.step_payments.specs.Parts.{changeOn, initial-plus, initial-minus, revised-plus, revised-taken, modified-plus, modified-minus}
 use Rattle.step_payments.specs.Kinds.{revised-first, modified-first}
 use Rattle.step_payments.specs.Amounts.{givenAt, plusOf, minusOf}
@@ -35,7 +35,7 @@ sum-cut s (suc n) f h k =
 
 -- what the matches of schedule s give back
 pub given-is : (x : Step) (s : ℕ) (f : ℕ → ℕ) → s < 5 → {m r : List ℕ} → m ≡ matchRow (onStep x) s → r ≡ five f → givenAt m r ≡ givenBack x s f
-unfolding matchRow givenAt productIn givenBack matchedAt
+unfolding matchRow givenAt productIn givenBack
 given-is x s f h p q =
     rw (p, q)
     (sum-same 4 (productIn (five (matched (onStep x) s)) (five f)) (matchedAt x s f)
