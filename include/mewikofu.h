@@ -13,8 +13,9 @@
 extern "C" {
 #endif
 
-/* Numbers. A refusal is the first fault met in the order of document 01's table, "Where each refusal is checked". Beside each are its place, which
-   the functions below name, and its condition; n is the day's line count, M the greatest break of a line's bids. */
+/* Numbers. A refusal is the first fault met in the order of document 01's table, "Where each refusal is checked" (docs/RULES.md says document 01, the
+   scope, in our words). Beside each are its place, which the functions below name, and its condition; n is the day's line count, M the greatest break
+   of a line's bids. */
 #define MEWIKOFU_ACCEPTED 0
 /* tools/refusals writes from here, from docs/REFUSALS.md. */
 #define MEWIKOFU_FILE_SHORT 1            /* header: fewer than 64 bytes */

@@ -169,7 +169,7 @@ class PageTest(unittest.TestCase):
 
 class ReportTest(unittest.TestCase):
     def test_example_days(self):
-        for name in ("k10", "both-sides", "withdrawals"):
+        for name in ("k10", "both-sides", "withdrawals", "rules"):
             day = (ROOT / f"examples/{name}.day").read_bytes()
             self.assertEqual(report(mewikofu.settle(day)), (ROOT / f"examples/{name}.report").read_text())
 

@@ -39,6 +39,16 @@ fn examples() {
     }
 }
 
+/// The worked day of docs/RULES.md, whose report and steps were worked out by hand.
+#[test]
+fn worked_by_hand() {
+    let day = stored("examples/rules.day");
+    for (program, file) in [("settle", "rules.report"), ("steps", "rules.steps")] {
+        let shown = run(&[program], &day);
+        assert_eq!(stored(&format!("examples/{file}")), shown, "{file}");
+    }
+}
+
 #[test]
 fn day_numbers() {
     let damaged = run(&["days", "4608", "57", "damaged"], &[]);

@@ -56,6 +56,13 @@ fn example_is_k10() {
     assert_eq!(day, stored("examples/k10.day"));
 }
 
+/// The worked day of docs/RULES.md.
+#[test]
+fn rules_day() {
+    let day = run(&["make"], &stored("examples/rules.day.txt")).output();
+    assert_eq!(day, stored("examples/rules.day"));
+}
+
 /// Every word of a line has its place: in document 01's order they are 100, 101, 102 ..
 #[test]
 fn places() {
