@@ -1,17 +1,16 @@
 -- A number's bytes put, and one amount or pair more of a row.
-use Prim.Native.Nat.{ℕ, _+_, _*_, _^_, _≤_, _<_}
+use Prim.Native.Nat.{ℕ, _+_, _*_, _≤_}
 use native.Mathlib.Omega.{arith}
-use mathlib.Core.Path.{_≡_, _∙_, ap, ap₂}
-use mathlib.Core.List.{List, [], _∷_, _++_}
+use mathlib.Core.Path.{_≡_, ap, ap₂}
+use mathlib.Core.List.{List, _++_}
 use lib.Seq.{sets}
 use lib.IntN.{ℤ}
-use lib.Signed.{mag}
 use mir.Syntax.{w64}
 use mir.Val.{SFits, toZ, ofZ}
 use mir.Facts.{toZ-ofZ}
-use Rattle.rules.specs.Fold.{joined, five}
+use Rattle.rules.specs.Fold.{joined}
 use Rattle.rules.specs.Book.{le, signedBytes}
-use Rattle.book.specs.Reading.{le-length}
+use Rattle.book_layout.specs.Reading.{le-length}
 use Rattle.text.specs.Put.{Written, written-as, row-more}
 use Rattle.book.specs.Entries.{moneyBytes, pairBytes}
 
@@ -37,10 +36,3 @@ pair-more t a s h g w x = row-more (pairBytes t a) 16 s w (written-as (ap₂ (λ
 -- a row that is done
 pub row-all : (f : ℕ → List ℕ) (c s : ℕ) {l m : List ℕ} {at p : ℕ} → s ≤ 5 → 5 ≤ s → Written (c * s) l at (joined s f) p m → Written (c * 5) l at (joined 5 f) p m
 row-all f c s h g w = let e : s ≡ 5 = omega arith in rw e at w
-
--- a signed result of a call, read back from its bits; five of them one by one
-pub read-back : {z y : ℤ} → mag z < 2 ^ 63 → z ≡ y → toZ w64 (ofZ w64 z) ≡ y
-read-back f e = toZ-ofZ (record { sfits = f }) ∙ e
-
-pub five-same : (f : ℕ → ℤ) {a b c d e : ℤ} → a ≡ f 0 → b ≡ f 1 → c ≡ f 2 → d ≡ f 3 → e ≡ f 4 → _≡_ {A = List ℤ} (a ∷ b ∷ c ∷ d ∷ e ∷ []) (five f)
-five-same f p q r s t = rw (p, q, r, s, t)

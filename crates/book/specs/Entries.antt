@@ -10,13 +10,9 @@ use Rattle.rules.specs.Fold.{joined, five, atZ}
 use Rattle.rules.specs.Refusals.{bookLength}
 use Rattle.rules.specs.Payments.{Day}
 use Rattle.rules.specs.Totals.{linePayment, total, totals, adjusted, adjustedTotal}
-use Rattle.rules.specs.Book.{wordBytes, signedBytes, bookHeader, totalPair, lineEntry, bookOf}
+use Rattle.rules.specs.Book.{signedBytes, bookHeader, totalPair, lineEntry, bookOf}
 use Rattle.laws.specs.Folds.{joined-length}
-use Rattle.book.specs.Framing.{header-length, pairs-length, entry-length}
-
--- four words, as at the front of the book and of each of its lines
-abbrev pub fourWords : ℕ → ℕ → ℕ → ℕ → List ℕ
-fourWords a b c d = wordBytes a ++ wordBytes b ++ wordBytes c ++ wordBytes d
+use Rattle.book_layout.specs.Framing.{fourWords, header-length, pairs-length, entry-length}
 
 unfoldable pub moneyBytes : (ℕ → ℤ) → ℕ → List ℕ
 moneyBytes v s = signedBytes (v s)

@@ -1,24 +1,14 @@
-// The parts of a book (document 01, "Totals and book") written into lent bytes from a place on; module `reader` reads them back.
-// Each function answers the place after its part. `Written` of crate `text` (specs/Put.antt) says what stands in the bytes then.
-pub mod reader;
-
+// The parts of a book (document 01, "Totals and book") written into lent bytes from a place on. Each function answers the place after
+// its part. `Written` of crate `text` (specs/Put.antt) says what stands in the bytes then.
 ghost use mathlib.Core.Path.{_≡_};
-ghost use Prim.Native.Nat.{_+_, _^_, _≤_, _<_};
+ghost use Prim.Native.Nat.{_+_, _≤_};
 ghost use mathlib.Core.List.{_++_};
 ghost use lib.ListN.{length};
 ghost use Rattle.rules.specs.Fold.{joined, atZ};
 ghost use Rattle.rules.specs.Book.{wordBytes, signedBytes};
 ghost use Rattle.text.specs.Put.{Written};
-ghost use Rattle.book.specs.Framing.{entryAt};
-ghost use Rattle.book.specs.Entries.{fourWords, moneyBytes, pairBytes, entryOf, frontOf};
-
-// The place of entry k, which is the length of a book of k lines.
-pub fn entry_at(k: usize) -> usize
-    requires { ⌜ entryAt k < 2 ^ 64 ⌝ }
-    ensures { λ r. ⌜ r ≡ entryAt k ⌝ }
-{
-    96 + 56 * k
-}
+ghost use Rattle.book_layout.specs.Framing.{fourWords};
+ghost use Rattle.book.specs.Entries.{moneyBytes, pairBytes, entryOf, frontOf};
 
 // A word.
 fn put_word(book: &mut [u8], at: usize, v: u32) -> usize

@@ -17,8 +17,8 @@ use Rattle.rules.specs.Matching.{rise, fall}
 use Rattle.rules.specs.declared.View.{View}
 use Rattle.rules.specs.declared.Cut.{Cut}
 use Rattle.cutter.specs.Certificate.{endAt, widthAt}
-use Rattle.book.specs.Reading.{signedAt}
-use Rattle.book.specs.Framing.{adjustedAt, paymentAt}
+use Rattle.book_layout.specs.Reading.{signedAt}
+use Rattle.book_layout.specs.Framing.{adjustedAt, paymentAt}
 
 -- m(r, s) "as the step view answers" it, among its ten matches: those of s follow those of the schedules before it
 abbrev pub matchesBefore : ℕ → ℕ

@@ -25,8 +25,8 @@ use Rattle.laws.specs.Accepted.{accepted-day, accepted-line-at}
 use Rattle.laws.specs.Folds.{sum-same, at-five}
 use Rattle.laws.specs.Ints.{ltZ-yes, le-ltZ}
 use Rattle.day_totals.specs.Sizes.{mag-size, adjusted-size}
-use Rattle.book.specs.Reading.{signedAt}
-use Rattle.book.specs.Framing.{paymentAt, book-words, book-adjusted, book-payment, after-settling}
+use Rattle.book_layout.specs.Reading.{signedAt}
+use Rattle.book_layout.specs.Framing.{paymentAt, book-words, book-adjusted, book-payment, after-settling}
 use Rattle.certificate.specs.Certificate.{Certified, matchIn, matchesMade, matchesWith, adjustedIn, paymentsIn}
 use Rattle.step_quantities.specs.Bounds.{aginoOn-most, msiqOn-most}
 use Rattle.step_quantities.specs.Adding.{stepPricing, stepOperating, pricing-adds-up, operating-adds-up}

@@ -1,10 +1,7 @@
 // Settling: a day's bytes to its book (document 01, "Totals and book").
-mod book_lines;
-pub mod paid;
-
-use crate::book_lines::put_book;
-use book::entry_at;
+use book_layout::entry_at;
 use day::day_number;
+use day_book::put_book;
 use layout::header::line_count;
 ghost use mathlib.Core.Path.{_≡_};
 ghost use lib.ListN.{length};

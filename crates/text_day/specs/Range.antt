@@ -25,7 +25,7 @@ use Rattle.step_inputs.specs.Paid.{DaySized, payment-size, day-bounded, settled
 use Rattle.day_totals.specs.Sizes.{Bounded, size, mag-size, adjusted-size}
 use Rattle.text_report.specs.BookText.{reportMost, reportOf, report-short}
 use Rattle.text_report.specs.Settled.{report-is}
-use Rattle.book.specs.Framing.{InRange}
+use Rattle.book_layout.specs.Framing.{InRange}
 
 -- a line's words fit
 line-bytes : (d : List ℕ) (k : ℕ) → ((i : ℕ) → getD d i 0 < 256) → (j : ℕ) → getD (lineAt d k) j 0 < 256

@@ -11,7 +11,7 @@ use Rattle.rules.specs.Fold.{joined, five, atZ}
 use Rattle.rules.specs.Layout.{mostLines}
 use Rattle.rules.specs.Refusals.{bookLength}
 use Rattle.rules.specs.Report.{refusedLine}
-use Rattle.book.specs.Framing.{bookLines, bookTotal, bookAdjusted, bookParticipant, bookPoint, bookSide, bookCount, bookPayment}
+use Rattle.book_layout.specs.Framing.{bookLines, bookTotal, bookAdjusted, bookParticipant, bookPoint, bookSide, bookCount, bookPayment}
 use Rattle.text_report.specs.Lines.{lineTextOf, heading, totalsText, five-of}
 
 -- a line's text, from its entry

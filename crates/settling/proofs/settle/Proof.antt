@@ -6,7 +6,7 @@ use native.Mathlib.Omega.{arith}
 use borrow.Author.Needs.{needs}
 use Rattle.rules.specs.Layout.{lineCount}
 use Rattle.laws.specs.Accepted.{accepted-day}
-use Rattle.settling.specs.Lines.{day-refused, book-short, book-put}
+use Rattle.settling.proofs.Laws.{day-refused, book-short, book-put}
 use Rattle.settling.proofs.settle.Statement.{statement}
 use Rattle.settling.proofs.settle.Tie as tie
 

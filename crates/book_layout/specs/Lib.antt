@@ -1,0 +1,3 @@
+-- Reading numbers back out of bytes, and where the numbers of a book stand.
+pub mod Reading
+pub mod Framing
