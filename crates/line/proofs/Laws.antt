@@ -10,7 +10,7 @@ use Rattle.rules.specs.Fold.{_orElse_, first}
 use Rattle.rules.specs.Layout.{side, accreditation, bidCount, operatingTable}
 use Rattle.rules.specs.Refusals.{breakFault, bidFault, lineFaultWith, lineFault}
 use Rattle.laws.specs.Folds.{stops, passes, ends-at, none-at, part-stops, part-passes, orElse-assoc, fold-stops}
-use Rattle.line.specs.Faults.{hedgeFault, limitsFault}
+use Rattle.line_limits.specs.Faults.{hedgeFault, limitsFault}
 use Rattle.line.specs.Parts.{lineFrom, headFault}
 use Rattle.line_bids.specs.Counts.{countFault}
 use Rattle.line_bids.specs.Slots.{slotsFault}

@@ -1,8 +1,4 @@
 // One line's 660 bytes: refusals 6 to 13.
-mod greatest_break;
-mod limits;
-
-use crate::limits::limits_number;
 use layout::bids::bid_count;
 use layout::fields::accreditation;
 use layout::fields::side;
@@ -10,6 +6,7 @@ use layout::header::LINE_BYTES;
 use line_bids::breaks::break_number;
 use line_bids::breaks::count_number;
 use line_bids::prices::slots_number;
+use line_limits::limits_number;
 use line_quantities::rows::operating_table;
 ghost use mathlib.Core.Path.{_≡_};
 ghost use Prim.Native.Nat.{_+_, _*_, _≤_};

@@ -7,10 +7,10 @@ ghost use Rattle.rules.specs.Report.{reportText};
 ghost use Rattle.text.specs.Put.{Written};
 ghost use Rattle.text_report.specs.BookText.{reportMost};
 use settling::settle;
-use text_report::report::report;
+use text_report::report;
 
 // Settles a day into a book of its own and puts the report. It answers how many bytes it put: none where fewer than
-// `text_report::report::REPORT_MOST` are lent.
+// `text_report::REPORT_MOST` are lent.
 pub fn day_report(day: &[u8], out: &mut [u8]) -> usize
     ensures { λ r. do
       lent ← ⟦out.len()⟧ .entry

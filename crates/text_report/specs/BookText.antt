@@ -12,7 +12,7 @@ use Rattle.rules.specs.Layout.{mostLines}
 use Rattle.rules.specs.Refusals.{bookLength}
 use Rattle.rules.specs.Report.{refusedLine}
 use Rattle.book_layout.specs.Framing.{bookLines, bookTotal, bookAdjusted, bookParticipant, bookPoint, bookSide, bookCount, bookPayment}
-use Rattle.text_report.specs.Lines.{lineTextOf, heading, totalsText, five-of}
+use Rattle.text_lines.specs.Lines.{lineTextOf, heading, totalsText, five-of}
 
 -- a line's text, from its entry
 unfoldable pub entryText : List ℕ → ℕ → List ℕ

@@ -1,5 +1,3 @@
--- The report's lines over plain values, and their laws.
-pub mod Lines
 -- The report read off a book's bytes, and why it is the day's report.
 pub mod BookText
 pub mod Settled

@@ -19,7 +19,7 @@ use Rattle.rules.specs.Report.{totalText, adjustedText, numberAfter, fiveNumber
 use Rattle.laws.specs.Folds.{refuse-false, orElse-zero, orElse-suc}
 use Rattle.laws.specs.Accepted.{accepted-day}
 use Rattle.text.specs.Put.{joined-same}
-use Rattle.text_report.specs.Lines.{lineTextOf, heading, totalsText, line-of}
+use Rattle.text_lines.specs.Lines.{lineTextOf, heading, totalsText, line-of}
 use Rattle.book_layout.specs.Framing.{bookLines, bookTotal, bookAdjusted, bookPayment, InRange, book-length, after-settling}
 use Rattle.book_layout.specs.Framing.{book-lines, book-total, book-adjusted, book-participant, book-point, book-side, book-count, book-payment}
 use Rattle.text_report.specs.BookText.{entryText, bookText, reportMost, reportOf, report-refused, report-book}

@@ -1,4 +1,3 @@
--- The text of one step's figures (ViewText), what the program `steps` prints (Text), and that its parts make up the whole (Parts).
-pub mod ViewText
+-- What the program `steps` prints (Text), and that its parts make up the whole (Parts).
 pub mod Text
 pub mod Parts

@@ -9,8 +9,8 @@ use Rattle.rules.specs.Steps.{stepCount}
 use Rattle.rules.specs.Refusals.{dayFault}
 use Rattle.rules.specs.Viewing.{viewAnswer}
 use Rattle.rules.specs.Report.{decimal, space, lineFeed, refusedLine}
-use Rattle.text_report.specs.Lines.{lineIds, sideSteps}
-use Rattle.text_steps.specs.ViewText.{viewText}
+use Rattle.text_lines.specs.Lines.{lineIds, sideSteps}
+use Rattle.text_view.specs.ViewText.{viewText}
 
 -- "line ", "step ", "matches"
 abbrev pub lineWord : List ℕ

@@ -1,3 +1,2 @@
 // What the program `steps` prints, in lent bytes.
 pub mod steps_text;
-mod view_text;

@@ -1,6 +1,5 @@
 // What the program `steps` prints, written into lent bytes: for each line of a day its heading, and for each of its steps the figures
 // that the step view answers.
-use crate::view_text::put_view;
 use day::day_number;
 use layout::fields::participant;
 use layout::fields::point;
@@ -11,8 +10,9 @@ use text::digits::put_byte;
 use text::digits::put_bytes;
 use text::digits::put_decimal;
 use text::refused::put_refused;
-use text_report::lines::put_ids;
-use text_report::lines::put_side_steps;
+use text_lines::put_ids;
+use text_lines::put_side_steps;
+use text_view::put_view;
 use view::view;
 ghost use mathlib.Core.Path.{_≡_};
 ghost use Prim.Native.Nat.{_+_, _*_, _≤_, _<_};

@@ -10,9 +10,9 @@ use Rattle.rules.specs.Refusals.{dayFault}
 use Rattle.rules.specs.Viewing.{viewAnswer}
 use Rattle.rules.specs.Report.{decimal, space, lineFeed, refusedLine}
 use Rattle.rules.specs.declared.View.{View}
-use Rattle.text_report.specs.Lines.{lineIds, sideSteps}
+use Rattle.text_lines.specs.Lines.{lineIds, sideSteps}
 use Rattle.text_steps.specs.Text.{lineWord, stepText, lineHead, lineSteps, stepsPart, partMost, partOf}
-use Rattle.text_steps.specs.ViewText.{viewText}
+use Rattle.text_view.specs.ViewText.{viewText}
 
 -- a step from the view's answer
 pub step-is : (d : List ℕ) (k j : ℕ) {v : View} → v ≡ viewAnswer d k j → viewText j v ≡ stepText d k j

@@ -1,0 +1,84 @@
+// Refusals 11 to 13, which hold a line's hedge, totals and actuals to M and to the quantity limit.
+mod greatest_break;
+
+use crate::greatest_break::greatest_break;
+use layout::fields::actual_place;
+use layout::fields::hedge;
+use layout::fields::side;
+use line_quantities::rows::pricing_totals;
+use line_quantities::sums::operating_totals;
+use numbers::wide;
+use units::Quantity;
+use units::quantity_refusal;
+ghost use mathlib.Core.Path.{_≡_};
+ghost use lib.ListN.{length};
+ghost use Rattle.rules.specs.Fold.{first};
+ghost use Rattle.rules.specs.Refusals.{bidFault, actualFault};
+ghost use Rattle.line_limits.specs.Faults.{hedgeFault, totalsFault, limitsFault};
+
+// Refusal 11, with M.
+pub fn hedge_number(line: &[u8], most: u32) -> u32
+    requires { ⌜ length (now line) ≡ 660 ⌝ }
+    ensures { λ r. ⌜ r ≡ hedgeFault (now (line .entry)) most ⌝ }
+{
+    let hedged = hedge(line);
+    if most < hedged {
+        return 11;
+    }
+    if side(line) == 1 {
+        if hedged != 0 {
+            return 11;
+        }
+    }
+    0
+}
+
+// Refusal 12, with M and the two rows of totals. The loop maintains that no total of a schedule before s is above M.
+pub fn totals_number(most: u64, pricing: [u64; 5], operating: [u64; 5]) -> u32
+    ensures { λ r. ⌜ r ≡ first (totalsFault most pricing operating) 5 ⌝ }
+{
+    let mut s = 0;
+    while s < 5 {
+        if most < pricing[s] {
+            return 12;
+        }
+        if most < operating[s] {
+            return 12;
+        }
+        s += 1;
+    }
+    0
+}
+
+// Refusal 13. The loop maintains that no actual of an interval before i is above the limit.
+pub fn actuals_number(line: &[u8]) -> u32
+    requires { ⌜ length (now line) ≡ 660 ⌝ }
+    ensures { λ r. ⌜ r ≡ first (actualFault (now (line .entry))) 5 ⌝ }
+{
+    let mut i = 0;
+    while i < 5 {
+        let fault = quantity_refusal(Quantity::read(line, actual_place(i)), 13);
+        if fault != 0 {
+            return fault;
+        }
+        i += 1;
+    }
+    0
+}
+
+// Refusals 11 to 13, where the bids are accepted, with the table of operating quantities that counts for the line.
+pub fn limits_number(line: &[u8], table: [[u32; 5]; 5]) -> u32
+    requires { ⌜ (length (now line) ≡ 660) × (first (bidFault (now line)) 5 ≡ 0) ⌝ }
+    ensures { λ r. ⌜ r ≡ limitsFault table (now (line .entry)) ⌝ }
+{
+    let most = greatest_break(line);
+    let hedging = hedge_number(line, most);
+    if hedging != 0 {
+        return hedging;
+    }
+    let totals = totals_number(wide(most), pricing_totals(line), operating_totals(table));
+    if totals != 0 {
+        return totals;
+    }
+    actuals_number(line)
+}

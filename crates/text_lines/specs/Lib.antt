@@ -1,0 +1,2 @@
+-- The report's lines over plain values, and their laws.
+pub mod Lines

@@ -1,0 +1,2 @@
+-- The text of one step's figures.
+pub mod ViewText
