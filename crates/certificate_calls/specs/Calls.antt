@@ -63,6 +63,13 @@ viewed d k j v e z =
       step = leb-false (stepCount (lineAt d k)) j (refuse-zero 16 _ (rest .right));
     }
 
+-- any book that is long enough will do
+pub day-certified : (d : List ℕ) → dayFault d ≡ 0 → CertifiedDay d (bookAfter d (replicate (bookLength (lineCount d)) 0))
+unfolding lineCut
+day-certified d h =
+    let b : List ℕ = replicate (bookLength (lineCount d)) 0 in
+    certified d b (bookAfter d b) (viewAnswer d) (λ i. cutAnswer (lineAt d i)) h (omega (arith, length-replicate {A = ℕ} (bookLength (lineCount d)) 0)) refl (λ i m. refl) (λ i. refl)
+
 -- the part that is lent is the line
 part-there : (d : List ℕ) (k : ℕ) → dayFault d ≡ 0 → k < lineCount d → linePart d k ≡ lineAt d k
 unfolding linePart linePartFault dayFault _orElse_
@@ -71,10 +78,10 @@ part-there d k h l =
     rw (header, lt-leb (lineCount d) k l, refuse-false 16)
 
 module _ (d : List ℕ) (k j : ℕ) (v : View) (p : List ℕ) (c : Cut) (ve : v ≡ viewAnswer d k j) (z : v .number ≡ 0) (pe : p ≡ linePart d k) (ce : c ≡ cutAnswer p) where
-  there : Viewed d k j
+  pub there : Viewed d k j
   there = viewed d k j v ve z
 
-  own : c ≡ lineCut d k
+  pub own : c ≡ lineCut d k
   unfolding lineCut
   own = ce ∙ ap cutAnswer (pe ∙ part-there d k (there .accepted) (there .line))
 
@@ -85,16 +92,9 @@ module _ (d : List ℕ) (k j : ℕ) (v : View) (p : List ℕ) (c : Cut) (ve : v 
   pub step-few : j < 56
   step-few = omega (arith, there .step, count-most (lineAt d k) (accepted-line-at d (accepted-day d (there .accepted)) k (there .line)))
 
-  -- any book that is long enough will do
-  cert : CertifiedDay d (bookAfter d (replicate (bookLength (lineCount d)) 0))
-  unfolding lineCut
-  cert =
-      let b : List ℕ = replicate (bookLength (lineCount d)) 0 in
-      certified d b (bookAfter d b) (viewAnswer d) (λ i. cutAnswer (lineAt d i)) (there .accepted) (omega (arith, length-replicate {A = ℕ} (bookLength (lineCount d)) 0)) refl (λ i m. refl) (λ i. refl)
-
   pub same-end : getD (c .ends) j 0 ≡ v .end
   unfolding endAt
   same-end =
       ap (λ (x : Cut). getD (x .ends) j 0) own
-      ∙ cert .same-end k j (there .line) (omega (arith, there .step, count-is))
+      ∙ day-certified d (there .accepted) .same-end k j (there .line) (omega (arith, there .step, count-is))
       ∙ sym (ap (λ (u : View). u .end) ve)

@@ -1,3 +1,4 @@
 -- The certificate of real calls, and uses of it.
 pub mod Calls
+pub mod Lines
 pub mod Uses

@@ -1,4 +1,6 @@
 // The certificate of demand 3 on real calls: what settling, the step view and the cutter answer for one day.
+pub mod line_sums;
+
 ghost use mathlib.Core.Path.{_≡_};
 ghost use mathlib.Core.Bool.{true};
 ghost use lib.ListN.{length};

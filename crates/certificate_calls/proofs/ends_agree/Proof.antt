@@ -1,4 +1,5 @@
 -- `certificate_calls::ends_agree` meets its contract: by the certificate's clause on ends.
+use mathlib.Core.Path.{refl}
 use denote.Ref.{now}
 use native.Mathlib.Omega.{arith}
 use borrow.Author.Needs.{needs}
@@ -6,6 +7,9 @@ use borrow.Author.Tests.{eq-eqb}
 use Rattle.certificate_calls.specs.Calls.{step-few, same-end}
 use Rattle.certificate_calls.proofs.ends_agree.Statement.{statement}
 use Rattle.certificate_calls.proofs.ends_agree.Tie as tie
+
+returns : tie.Need-returns
+returns c = refl
 
 mul-result : tie.Need-mul-result
 mul-result c =
@@ -37,5 +41,5 @@ returns-2 c =
 pub ends-agree-spec : {M : Type 1} → statement M
 ends-agree-spec =
     tie.close
-    (tie.spec (λ c κs. search needs) (λ c. search needs) (λ c κs. search needs) (λ c κs. search needs) mul-result
-    array-read-result returns-2)
+    (tie.spec (λ c κs. search needs) returns (λ c κs. search needs) (λ c κs. search needs) mul-result array-read-result
+    returns-2)
