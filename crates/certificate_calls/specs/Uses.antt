@@ -1,20 +1,21 @@
--- The certificate applied: to K10's day, which is accepted, and to a law on the cutter that a buyer would ask for.
+-- The certificate applied: to K10's day and to a worked day, which are accepted, and to a law on the cutter that a buyer would ask for.
 use Prim.Native.Nat.{ℕ, _≤_, _<_}
 use mathlib.Core.Path.{_≡_, refl, _∙_}
 use mathlib.Core.List.{List}
 use lib.ListN.{length}
-use Rattle.rules.specs.Fold.{refuse, _orElse_, first, before, sumTo, mostTo}
+use Rattle.rules.specs.Fold.{sumTo}
 use Rattle.rules.specs.Layout.{lineCount, lineAt}
-use Rattle.rules.specs.Steps.{bidMost, greatestBreak}
-use Rattle.rules.specs.Quantities.{pricingTotal, tableTotal}
-use Rattle.rules.specs.Refusals.{headerFault, marketPriceFault, markFault, marketFault, breakFault, outOfOrder, orderFault, priceFault, unusedFault, bidFault}
-use Rattle.rules.specs.Refusals.{totalFault, actualFault, lineFaultWith, lineFault, lineFaultAt, sameKey, pairFault, keyFault, dayFault}
-use Rattle.rules.specs.Figures.{k10Day}
+use Rattle.rules.specs.Steps.{greatestBreak}
+use Rattle.rules.specs.Refusals.{dayFault}
 use Rattle.rules.specs.Cutting.{cutAnswer}
 use Rattle.rules.specs.Viewing.{viewAnswer}
 use Rattle.rules.specs.declared.View.{View}
 use Rattle.rules.specs.declared.Cut.{Cut}
-use Rattle.rules.specs.Book.{le, bookAfter}
+use Rattle.rules.specs.Book.{bookAfter}
+use Rattle.rules.specs.Worked.Opened.{opened}
+use Rattle.rules.specs.Worked.Figures.{k10Day}
+use Rattle.rules.specs.Worked.Base2.{base2Words, base2Day}
+use Rattle.rules.specs.Worked.Lemma.{base-2-accepted}
 use Rattle.laws.specs.Folds.{sum-same}
 use Rattle.cutter.specs.Certificate.{widthAt}
 use Rattle.certificate.specs.Certificate.{Certified}
@@ -22,16 +23,20 @@ use Rattle.certificate.specs.Proof.{certified}
 
 -- K10's day has none of settling's faults, by computation
 pub k10-accepted : dayFault k10Day ≡ 0
-unfolding refuse _orElse_ first before sumTo mostTo headerFault marketPriceFault markFault marketFault breakFault
-    outOfOrder orderFault priceFault unusedFault bidFault totalFault actualFault lineFaultWith lineFault lineFaultAt sameKey
-    pairFault keyFault dayFault bidMost greatestBreak pricingTotal tableTotal le
+unfolding opened
 k10-accepted = refl
 
 -- and so it is certified, with its book in any lent one of at least 152 bytes
 pub k10-certified : (b : List ℕ) → 152 ≤ length b → Certified k10Day (bookAfter k10Day b) (viewAnswer k10Day) (λ k. cutAnswer (lineAt k10Day k))
-unfolding le
 k10-certified b l =
     certified k10Day b (bookAfter k10Day b) (viewAnswer k10Day) (λ k. cutAnswer (lineAt k10Day k)) k10-accepted l refl
+    (λ k j. refl) (λ k. refl)
+
+-- So is a worked day with both sides, clawback on, marks that lower prices and a hedge, whose figures are in rules (`base-2`)
+pub base-2-certified : (b : List ℕ) → 208 ≤ length b → Certified base2Day (bookAfter base2Day b) (viewAnswer base2Day) (λ k. cutAnswer (lineAt base2Day k))
+unfolding base2Words base2Day
+base-2-certified b l =
+    certified base2Day b (bookAfter base2Day b) (viewAnswer base2Day) (λ k. cutAnswer (lineAt base2Day k)) base-2-accepted l refl
     (λ k j. refl) (λ k. refl)
 
 -- the cutter alone covers a line: its own widths add up to the greatest break

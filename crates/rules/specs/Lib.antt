@@ -14,4 +14,4 @@ pub mod Days
 pub mod Viewing
 pub mod Book
 pub mod Report
-pub mod Figures
+pub mod Worked

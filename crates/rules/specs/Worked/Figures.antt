@@ -2,50 +2,25 @@
 use Prim.Native.Nat.{ℕ}
 use mathlib.Core.Path.{_≡_, refl}
 use mathlib.Core.List.{List, [], _∷_, _++_, map}
-use mathlib.Core.Bool.{Bool, true, false, _&&_}
+use mathlib.Core.Bool.{true}
 use lib.ListN.{replicate}
-use lib.Dec.{eqb}
 use lib.IntN.{ℤ, pos, negsuc}
-use Rattle.rules.specs.Fold.{refuse, _orElse_, first, before, sumTo, sumZ, mostTo, someTo, joined, listTo, five}
-use Rattle.rules.specs.Refusals.{headerFault, marketPriceFault, markFault, marketFault, breakFault, outOfOrder, orderFault, priceFault, unusedFault, bidFault}
-use Rattle.rules.specs.Refusals.{totalFault, actualFault, lineFaultWith, lineFault, lineFaultAt, sameKey, pairFault, keyFault, dayFault, settleFault}
-use Rattle.rules.specs.Steps.{bidMost, greatestBreak, insert, rising, bidBreaks, hedgePoint, ends, stepCount, upperEnd, lowerEnd, stepFrom, bidStep, price, flag}
-use Rattle.rules.specs.Steps.{capped, hedged, accredited, paid}
-use Rattle.rules.specs.Quantities.{pricingTotal, operatingTotal, tableTotal, tableActual, effectiveActual, allocated, leastFrom, lastAgino, agino, beyond, msiqFrom, msiq, constrained}
-use Rattle.rules.specs.Matching.{earlier, rise, fall, takes, leaves, openRises, matchesOf, matched, tenMatches}
-use Rattle.rules.specs.Payments.{operatingOn, pricingOn, actualOn, aginoOn, msiqOn, constrainedOn, onStep, excess, milder, rate, revisedRate, isPaid, initial}
-use Rattle.rules.specs.Payments.{givenBack, initialOr, revised, modified, pooledPayment, isPooled, finalPayment, poolTotal}
-use Rattle.rules.specs.Payments.{poolChange, poolBase, poolDiffers, poolOf, stepFinal}
-use Rattle.rules.specs.Days.{stepOf}
-use Rattle.rules.specs.Totals.{linePayment, total, leastSum, adjustedAfter, carried, adjusted, totals, adjustedTotal}
-use Rattle.rules.specs.Book.{le, bits64, bookHeader, totalPair, lineEntry, bookOf, bookAfter}
-use Rattle.rules.specs.Report.{digits, decimal, signedDecimal, sideText, numberAfter, fiveNumbers, lineText, settledText, refusedLine, reportText}
-
--- what is worked out, and what document 01 says
-pub record Case : Type 0 where
-  pub found : List ℕ
-  pub expected : List ℕ
-
-abbrev same : List ℕ → List ℕ → Bool
-same [] [] = true
-same [] (y ∷ ys) = false
-same (x ∷ xs) [] = false
-same (x ∷ xs) (y ∷ ys) = eqb x y && same xs ys
-
-abbrev every : List Case → Bool
-every [] = true
-every (c ∷ cs) = same (c .found) (c .expected) && every cs
-
-abbrev bytesOf : List ℕ → List ℕ
-bytesOf [] = []
-bytesOf (v ∷ vs) = le 4 v ++ bytesOf vs
+use Rattle.rules.specs.Fold.{five}
+use Rattle.rules.specs.Steps.{ends, price, flag}
+use Rattle.rules.specs.Quantities.{pricingTotal, operatingTotal, effectiveActual, allocated, lastAgino, agino}
+use Rattle.rules.specs.Matching.{tenMatches}
+use Rattle.rules.specs.Totals.{adjusted}
+use Rattle.rules.specs.Book.{bits64, bookAfter}
+use Rattle.rules.specs.Report.{reportText}
+use Rattle.rules.specs.Worked.Cases.{Case, every, bytesOf}
+use Rattle.rules.specs.Worked.Opened.{opened}
 
 -- "Bids of FD Table 1, its GJ taken as MJ and each dollar as 10,000 price units, schedules 4 and 5 like its 2nd
 -- reschedule, hedge 37"; pricing quantities of FD Table 4, operating row 5 and actuals of FD Table 7
-abbrev tableBid : ℕ → List ℕ
+abbrev pub tableBid : ℕ → List ℕ
 tableBid s = 4 ∷ 17 ∷ 34 ∷ 51 ∷ 68 ∷ 0 ∷ 0 ∷ 0 ∷ 0 ∷ 0 ∷ 0 ∷ 0 ∷ 22000 ∷ 27000 ∷ 32000 ∷ 37000 ∷ 0 ∷ 0 ∷ 0 ∷ 0 ∷ 0 ∷ 0 ∷ 0 ∷ []
 
-abbrev tableLine : List ℕ
+abbrev pub tableLine : List ℕ
 tableLine =
     bytesOf
     ((1 ∷ 1 ∷ 0 ∷ 1 ∷ 37 ∷ [])
@@ -137,14 +112,5 @@ cases =
     ∷ []
 
 pub figures : every cases ≡ true
-unfolding refuse _orElse_ first before sumTo sumZ mostTo someTo joined listTo headerFault marketPriceFault markFault
-    marketFault breakFault outOfOrder orderFault priceFault unusedFault bidFault totalFault actualFault lineFaultWith lineFault
-    lineFaultAt sameKey pairFault keyFault dayFault settleFault bidMost greatestBreak insert rising bidBreaks
-    hedgePoint ends stepCount upperEnd lowerEnd stepFrom bidStep price flag capped hedged accredited paid
-    pricingTotal tableTotal tableActual allocated leastFrom lastAgino agino beyond msiqFrom msiq
-    constrained earlier rise fall takes leaves openRises matchesOf matched tenMatches operatingOn pricingOn actualOn
-    aginoOn msiqOn constrainedOn onStep excess milder rate revisedRate isPaid initial givenBack initialOr
-    revised modified pooledPayment isPooled finalPayment stepOf poolTotal poolChange poolBase poolDiffers poolOf stepFinal linePayment total leastSum adjustedAfter carried adjusted totals adjustedTotal le bookHeader totalPair
-    lineEntry bookOf bookAfter digits decimal signedDecimal sideText numberAfter fiveNumbers
-    lineText settledText refusedLine reportText
+unfolding opened
 figures = refl

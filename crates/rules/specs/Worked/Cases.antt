@@ -1,0 +1,104 @@
+-- Cases: what the definitions work out beside what is expected of them, and how days and expected figures are written.
+use Prim.Native.Nat.{ℕ, zero, suc, _-_, _/_, _%_, _^_}
+use Prim.Native.Char.{code}
+use Prim.Native.String.{String, len, charAt}
+use mathlib.Core.List.{List, [], _∷_, _++_, map}
+use mathlib.Core.Bool.{Bool, true, false, _&&_}
+use lib.ListN.{length, replicate}
+use lib.Dec.{eqb}
+use Rattle.rules.specs.Fold.{at, atZ}
+use Rattle.rules.specs.Layout.{lineAt}
+use Rattle.rules.specs.Cutting.{cutAnswer}
+use Rattle.rules.specs.Viewing.{viewAnswer}
+use Rattle.rules.specs.Book.{bits64, bookAfter}
+use Rattle.rules.specs.Report.{reportText}
+use Rattle.rules.specs.declared.View.{View}
+use Rattle.rules.specs.declared.Cut.{Cut}
+
+-- what is worked out, and what is expected
+pub record Case : Type 0 where
+  pub found : List ℕ
+  pub expected : List ℕ
+
+abbrev pub same : List ℕ → List ℕ → Bool
+same [] [] = true
+same [] (y ∷ ys) = false
+same (x ∷ xs) [] = false
+same (x ∷ xs) (y ∷ ys) = eqb x y && same xs ys
+
+abbrev pub every : List Case → Bool
+every [] = true
+every (c ∷ cs) = same (c .found) (c .expected) && every cs
+
+-- Days and expected figures are written by these, which use no definition of document 01.
+abbrev pub concat : List (List ℕ) → List ℕ
+concat [] = []
+concat (l ∷ ls) = l ++ concat ls
+
+-- words as bytes, the low one first
+abbrev pub bytesOf : List ℕ → List ℕ
+bytesOf [] = []
+bytesOf (v ∷ vs) = v % 256 ∷ v / 256 % 256 ∷ v / 65536 % 256 ∷ v / 16777216 % 256 ∷ bytesOf vs
+
+-- a text as its bytes: m characters from the i-th on, and all
+abbrev charsFrom : String → ℕ → ℕ → List ℕ
+charsFrom t i zero = []
+charsFrom t i (suc m) = code (charAt t i) ∷ charsFrom t (suc i) m
+
+abbrev pub textOf : String → List ℕ
+textOf t = charsFrom t 0 (len t)
+
+-- lines, each with a line feed
+abbrev pub linesOf : List String → List ℕ
+linesOf [] = []
+linesOf (t ∷ ts) = textOf t ++ (10 ∷ linesOf ts)
+
+-- with zeros up to n places
+abbrev pub filled : ℕ → List ℕ → List ℕ
+filled n l = l ++ replicate (n - length l) 0
+
+-- a bid's 23 words from its breaks and its prices
+abbrev pub bid : List ℕ → List ℕ → List ℕ
+bid br pr = length br ∷ filled 11 br ++ filled 11 pr
+
+-- minus n as a signed 64-bit number
+abbrev pub neg : ℕ → ℕ
+neg n = 2 ^ 64 - n
+
+-- of one schedule: price, flag, O, E, AGINO, MSIQ, C, and the four kinds of payment
+abbrev pub row : ℕ → ℕ → ℕ → ℕ → ℕ → ℕ → ℕ → ℕ → ℕ → ℕ → ℕ → List ℕ
+row p f o e g q c i r m a = p ∷ f ∷ o ∷ e ∷ g ∷ q ∷ c ∷ i ∷ r ∷ m ∷ a ∷ []
+
+-- a view by its schedules
+unfoldable pub rowOf : View → ℕ → List ℕ
+rowOf v s =
+    row (at (v .price) s) (at (v .flag) s) (at (v .operating) s) (at (v .pricing) s) (at (v .agino) s) (at (v .msiq) s) (at (v .constrained) s)
+    (bits64 (atZ (v .initial) s)) (bits64 (atZ (v .revised) s)) (bits64 (atZ (v .modified) s)) (bits64 (atZ (v .finals) s))
+
+unfoldable pub viewRows : View → List ℕ
+viewRows v =
+    v .number ∷ v .end ∷ v .width ∷ v .actual ∷ rowOf v 0 ++ rowOf v 1 ++ rowOf v 2 ++ rowOf v 3 ++ rowOf v 4 ++ v .matches
+
+unfoldable pub cutRows : Cut → List ℕ
+cutRows c = c .number ∷ c .count ∷ c .ends ++ c .prices ++ c .flags ++ c .missing
+
+-- a number
+abbrev pub number : ℕ → ℕ → Case
+number n e = record { found = n ∷ []; expected = e ∷ [] }
+
+-- the cases of a day d: the lent book b after settling, the report, the view of step j of line k, the cutter's answer for line k
+abbrev pub booked : List ℕ → List ℕ → List ℕ → Case
+booked d b e = record { found = bookAfter d b; expected = e }
+
+abbrev pub printed : List ℕ → List ℕ → Case
+printed d e = record { found = reportText d; expected = e }
+
+abbrev pub viewed : List ℕ → ℕ → ℕ → List ℕ → List (List ℕ) → List ℕ → Case
+viewed d k j e rows m = record { found = viewRows (viewAnswer d k j); expected = 0 ∷ e ++ concat rows ++ m }
+
+abbrev pub cutInto : List ℕ → ℕ → List ℕ → List (List ℕ) → List ℕ → List ℕ → Case
+cutInto d k e p f m =
+    record {
+      found = cutRows (cutAnswer (lineAt d k));
+      expected = 0 ∷ length e ∷ filled 56 e ++ concat (map (filled 56) p) ++ f ++ m;
+    }

@@ -1,0 +1,34 @@
+-- The definitions of document 01, opened: a lemma by computation says `unfolding opened`, so that this list stands in one place.
+use Prim.Native.Nat.{ℕ}
+use Rattle.rules.specs.Fold.{refuse, _orElse_, first, before, sumTo, sumZ, mostTo, someTo, joined, listTo, sumOf, padded}
+use Rattle.rules.specs.Refusals.{headerFault, marketPriceFault, markFault, marketFault, breakFault, outOfOrder, orderFault, priceFault, unusedFault, bidFault}
+use Rattle.rules.specs.Refusals.{totalFault, actualFault, lineFaultWith, lineFault, lineFaultAt, sameKey, pairFault, keyFault, dayFault, settleFault, viewFault, linePartFault, cutFault}
+use Rattle.rules.specs.Steps.{bidMost, greatestBreak, insert, rising, bidBreaks, hedgePoint, ends, stepCount, upperEnd, lowerEnd, stepFrom, bidStep, price, flag}
+use Rattle.rules.specs.Steps.{capped, hedged, accredited, paid}
+use Rattle.rules.specs.Quantities.{pricingTotal, tableTotal, tableActual, allocated, leastFrom, lastAgino, agino, beyond, msiqFrom, msiq, constrained}
+use Rattle.rules.specs.Matching.{earlier, rise, fall, takes, leaves, openRises, matchesOf, matched, tenMatches}
+use Rattle.rules.specs.Payments.{operatingOn, pricingOn, actualOn, aginoOn, msiqOn, constrainedOn, onStep, excess, milder, rate, revisedRate, isPaid, initial}
+use Rattle.rules.specs.Payments.{givenBack, initialOr, revised, modified, pooledPayment, isPooled, finalPayment, poolTotal}
+use Rattle.rules.specs.Payments.{poolChange, poolBase, poolDiffers, poolOf, stepFinal}
+use Rattle.rules.specs.Days.{stepOf}
+use Rattle.rules.specs.Totals.{linePayment, total, leastSum, adjustedAfter, carried, adjusted, totals, adjustedTotal}
+use Rattle.rules.specs.Book.{le, bookHeader, totalPair, lineEntry, bookOf, bookAfter}
+use Rattle.rules.specs.Report.{digits, decimal, signedDecimal, sideText, numberAfter, fiveNumbers, lineText, settledText, refusedLine, reportText}
+use Rattle.rules.specs.Cutting.{prices, flags, bits, flagWord, missing, priceRow, cutOf, cutRefused, cutAnswer}
+use Rattle.rules.specs.Viewing.{viewOf, viewRefused, viewAnswer}
+use Rattle.rules.specs.Worked.Cases.{rowOf, viewRows, cutRows}
+
+unfoldable pub opened : ℕ
+unfolding refuse _orElse_ first before sumTo sumZ mostTo someTo joined listTo sumOf padded headerFault marketPriceFault markFault
+    marketFault breakFault outOfOrder orderFault priceFault unusedFault bidFault totalFault actualFault lineFaultWith lineFault
+    lineFaultAt sameKey pairFault keyFault dayFault settleFault viewFault linePartFault cutFault bidMost greatestBreak insert rising bidBreaks
+    hedgePoint ends stepCount upperEnd lowerEnd stepFrom bidStep price flag capped hedged accredited paid
+    pricingTotal tableTotal tableActual allocated leastFrom lastAgino agino beyond msiqFrom msiq
+    constrained earlier rise fall takes leaves openRises matchesOf matched tenMatches operatingOn pricingOn actualOn
+    aginoOn msiqOn constrainedOn onStep excess milder rate revisedRate isPaid initial givenBack initialOr
+    revised modified pooledPayment isPooled finalPayment stepOf
+    poolTotal poolChange poolBase poolDiffers poolOf
+    stepFinal linePayment total leastSum adjustedAfter carried adjusted totals adjustedTotal le bookHeader totalPair
+    lineEntry bookOf bookAfter digits decimal signedDecimal sideText numberAfter fiveNumbers
+    lineText settledText refusedLine reportText prices flags bits flagWord missing priceRow cutOf cutRefused cutAnswer viewOf viewRefused viewAnswer rowOf viewRows cutRows
+opened = 0

@@ -1,0 +1,71 @@
+-- What the worked days leave open, worked out by hand in document 01's words: a pooled final payment whose quotient is rounded and one that
+-- is its initial payment, and a line that is hedged in part.
+use Prim.Native.Nat.{ℕ}
+use mathlib.Core.List.{List, [], _∷_}
+use lib.ListN.{length, getD, replicate}
+use Rattle.rules.specs.Steps.{paid}
+use Rattle.rules.specs.declared.Step.{Step}
+use Rattle.rules.specs.Payments.{bit, Day, stepFinal}
+use Rattle.rules.specs.Totals.{linePayment, total}
+use Rattle.rules.specs.Book.{bits64}
+use Rattle.rules.specs.Worked.Cases.{Case, number, neg}
+use Rattle.rules.specs.Worked.Figures.{tableLine}
+
+-- a step up to 100 with nothing priced and all of it delivered, so that C is the operating total: of a side, paid or not, with
+-- price and C in schedule 1, and in the schedules after it. Market prices are 4 in schedule 1, then 3
+abbrev simpleStep : ℕ → ℕ → ℕ → ℕ → ℕ → ℕ → Step
+simpleStep sd paid p₁ p₂ c₁ c₂ =
+    record {
+      side = sd;
+      lower = 0;
+      upper = 100;
+      price = p₁ ∷ replicate 4 p₂;
+      flag = replicate 5 0;
+      market = 4 ∷ replicate 4 3;
+      paid = replicate 5 paid;
+      pricing = replicate 5 0;
+      operating = c₁ ∷ replicate 4 c₂;
+      actual = c₂;
+    }
+
+-- In schedule 2, of the injections: line 0, step 0 falls by 6, initial -6 x (9 - 3) = -36, revised -6 x (5 - 3) = -12; step 1 rises by 5, initial and
+-- revised 5 x (8 - 3) = 25; line 1 falls by 2, initial and revised -2 x (4 - 3) = -2; line 2 is unpaid and rises by 40.
+-- Line 3 is a withdrawal that rises by 50, initial and revised 50 x (3 - 1) = 100
+abbrev poolSteps : List (List Step)
+poolSteps =
+    (simpleStep 0 1 5 9 10 4 ∷ simpleStep 0 1 5 8 0 5 ∷ [])
+    ∷ (simpleStep 0 1 5 4 3 1 ∷ [])
+    ∷ (simpleStep 0 0 5 9 0 40 ∷ [])
+    ∷ (simpleStep 1 1 1 1 0 50 ∷ [])
+    ∷ []
+
+-- with the clawback switch
+abbrev poolDay : ℕ → Day
+poolDay claw =
+    record {
+      lines = 4;
+      participant = λ k. k;
+      point = λ k. 0;
+      side = λ k. getD (0 ∷ 0 ∷ 0 ∷ 1 ∷ []) k 0;
+      count = λ k. length (getD poolSteps k []);
+      step = λ k j. getD (getD poolSteps k []) j (simpleStep 0 0 0 0 0 0);
+      clawback = claw;
+    }
+
+-- the finals in schedule 2, step by step
+abbrev finalsOf : ℕ → List ℕ
+finalsOf claw =
+    bits64 (stepFinal (poolDay claw) 1 0 0) ∷ bits64 (stepFinal (poolDay claw) 1 0 1) ∷ bits64 (stepFinal (poolDay claw) 1 1 0)
+    ∷ bits64 (stepFinal (poolDay claw) 1 2 0) ∷ bits64 (stepFinal (poolDay claw) 1 3 0) ∷ []
+
+unfoldable pub poolCases : List Case
+poolCases =
+    -- T = -12 + 25 - 2 = 11, B = max(5, 6 + 2) = 8; 11 x 6 / 8 = 8, so -12 - 8 = -20 is above -36; 11 x 2 / 8 = 2, and -2 - 2 is below -2
+    record { found = finalsOf 1; expected = neg 20 ∷ 25 ∷ neg 2 ∷ 0 ∷ 100 ∷ [] }
+    ∷ record { found = bits64 (linePayment (poolDay 1) 1 0) ∷ bits64 (total (poolDay 1) 1) ∷ []; expected = 5 ∷ 103 ∷ [] }
+    -- clawback off: the initial payments
+    ∷ record { found = finalsOf 0; expected = neg 36 ∷ 25 ∷ neg 2 ∷ 0 ∷ 100 ∷ [] }
+    -- K1's line is accredited, with hedge 37: its step that ends at 37 is hedged, the next one, which ends at 45, is paid
+    ∷ number (bit (paid tableLine 37 0)) 0
+    ∷ number (bit (paid tableLine 45 0)) 1
+    ∷ []

@@ -1,0 +1,126 @@
+-- Each refusal of document 01's table on both sides of its boundary. The numbers expected are the table's own.
+use Prim.Native.Nat.{ℕ}
+use mathlib.Core.List.{List, [], _∷_, _++_}
+use lib.ListN.{replicate, take, drop, set}
+use Rattle.rules.specs.Refusals.{dayFault, settleFault, viewFault, linePartFault, cutFault}
+use Rattle.rules.specs.Viewing.{viewAnswer}
+use Rattle.rules.specs.Cutting.{cutAnswer}
+use Rattle.rules.specs.Worked.Cases.{Case, concat, bytesOf, linesOf, bid, number, viewRows, cutRows, booked, printed}
+
+-- A day at every limit, which is accepted: prices and APC 10,000,000, marks and switch 1, an injection with 11 equal prices of 10,000,000 in its
+-- first bid and one step in each other, M = 200,000,000, and hedge, every pricing and operating total and every actual 200,000,000 too.
+-- Words: market 4 to 15 (marks from 9, APC 14, switch 15); the line from 16 (side 18, accreditation 19, hedge 20); bids from 21, 44, 67, 90 and 113,
+-- each a count, breaks from 1 and prices from 12 on; pricing from 136, operating from 151, actuals from 176
+unfoldable pub limitWords : List ℕ
+limitWords =
+    concat
+    ((1 ∷ 16 ∷ 64 ∷ 724 ∷ [])
+    ∷ replicate 5 10000000 ∷ replicate 5 1 ∷ (10000000 ∷ 1 ∷ [])
+    ∷ (7 ∷ 3 ∷ 0 ∷ 1 ∷ 200000000 ∷ [])
+    ∷ bid (1 ∷ 2 ∷ 3 ∷ 4 ∷ 5 ∷ 6 ∷ 7 ∷ 8 ∷ 9 ∷ 10 ∷ 200000000 ∷ []) (replicate 11 10000000)
+    ∷ bid (1 ∷ []) (5 ∷ []) ∷ bid (1 ∷ []) (5 ∷ []) ∷ bid (1 ∷ []) (5 ∷ []) ∷ bid (1 ∷ []) (5 ∷ [])
+    ∷ (200000000 ∷ 0 ∷ 0 ∷ 0 ∷ 0 ∷ []) ∷ replicate 10 0
+    ∷ (200000000 ∷ 0 ∷ 0 ∷ 0 ∷ 0 ∷ []) ∷ (0 ∷ 200000000 ∷ 0 ∷ 0 ∷ 0 ∷ []) ∷ (0 ∷ 0 ∷ 200000000 ∷ 0 ∷ 0 ∷ [])
+    ∷ (0 ∷ 0 ∷ 0 ∷ 200000000 ∷ 0 ∷ []) ∷ (0 ∷ 0 ∷ 0 ∷ 0 ∷ 200000000 ∷ [])
+    ∷ replicate 5 200000000
+    ∷ [])
+
+unfoldable pub limitDay : List ℕ
+limitDay = bytesOf limitWords
+
+-- the day of these words with word i changed to v
+unfoldable pub changed : List ℕ → ℕ → ℕ → List ℕ
+changed w i v = bytesOf (set w i v)
+
+-- two lines with equal keys; the days of Base1 and Base3 have lines that differ in participant, point or side alone
+unfoldable pub twoWords : List ℕ
+twoWords = concat ((2 ∷ 16 ∷ 64 ∷ 1384 ∷ []) ∷ take 12 (drop 4 limitWords) ∷ drop 16 limitWords ∷ drop 16 limitWords ∷ [])
+
+-- the header, and the market
+abbrev headerCases : List Case
+headerCases =
+    number (dayFault (take 63 limitDay)) 1
+    ∷ number (dayFault (take 64 limitDay)) 3
+    ∷ number (dayFault (changed limitWords 0 0)) 2
+    ∷ number (dayFault (changed limitWords 0 65)) 2
+    ∷ number (dayFault (changed limitWords 0 64)) 3
+    ∷ number (dayFault (changed limitWords 1 17)) 3
+    ∷ number (dayFault (changed limitWords 2 65)) 3
+    ∷ number (dayFault (changed limitWords 3 725)) 3
+    ∷ number (dayFault (take 723 limitDay)) 3
+    ∷ number (dayFault (limitDay ++ (0 ∷ []))) 3
+    ∷ number (dayFault (changed limitWords 4 10000001)) 4
+    ∷ number (dayFault (changed limitWords 8 10000001)) 4
+    ∷ number (dayFault (changed limitWords 14 10000001)) 4
+    ∷ number (dayFault (changed limitWords 9 2)) 5
+    ∷ number (dayFault (changed limitWords 13 2)) 5
+    ∷ number (dayFault (changed limitWords 15 2)) 5
+    ∷ []
+
+-- a line: side, accreditation; the first bid's count, breaks and prices; the second bid's unused slots; the last bid's last slot;
+-- a greatest break one lower, so that hedge and totals are M + 1; a withdrawal with a hedge; a pricing and an operating total of M + 1; an actual
+abbrev lineCases : List Case
+lineCases =
+    number (dayFault (changed limitWords 18 2)) 6
+    ∷ number (dayFault (changed limitWords 19 2)) 6
+    ∷ number (dayFault (changed limitWords 21 12)) 7
+    ∷ number (dayFault (changed limitWords 21 0)) 7
+    ∷ number (dayFault (changed limitWords 22 0)) 8
+    ∷ number (dayFault (changed limitWords 23 1)) 8
+    ∷ number (dayFault (changed limitWords 32 200000001)) 8
+    ∷ number (dayFault (changed limitWords 43 10000001)) 9
+    ∷ number (dayFault (changed limitWords 34 9999999)) 9
+    ∷ number (dayFault (changed limitWords 46 2)) 10
+    ∷ number (dayFault (changed limitWords 57 5)) 10
+    ∷ number (dayFault (changed limitWords 135 5)) 10
+    ∷ number (dayFault (changed limitWords 32 199999999)) 11
+    ∷ number (dayFault (changed limitWords 18 1)) 11
+    ∷ number (dayFault (changed limitWords 150 1)) 12
+    ∷ number (dayFault (changed limitWords 180 200000001)) 13
+    ∷ []
+
+-- all at their limits, accepted; two faults, of which the first met counts: 4 and 5, 5 and 6, 6 and 7, 7 and 8, 8 and 9, 9 and 10 (each of the whole
+-- bid), 10 and in the next bid 7, 12 and 13, 6 and 14; and two lines with equal keys
+abbrev orderCases : List Case
+orderCases =
+    number (dayFault limitDay) 0
+    ∷ number (dayFault (changed (set limitWords 14 10000001) 9 2)) 4
+    ∷ number (dayFault (changed (set limitWords 15 2) 18 2)) 5
+    ∷ number (dayFault (changed (set limitWords 19 2) 21 0)) 6
+    ∷ number (dayFault (changed (set limitWords 21 12) 22 0)) 7
+    ∷ number (dayFault (changed (set limitWords 32 200000001) 33 10000001)) 8
+    ∷ number (dayFault (changed (set limitWords 56 10000001) 46 2)) 9
+    ∷ number (dayFault (changed (set limitWords 46 2) 67 0)) 10
+    ∷ number (dayFault (changed (set limitWords 174 1) 180 200000001)) 12
+    ∷ number (dayFault (changed twoWords 19 2)) 6
+    ∷ number (dayFault (bytesOf twoWords)) 14
+    ∷ []
+
+-- the cutter, on the day's line, by its length before anything else; and what a refused day is answered with by every call
+unfoldable pub cutterCases : List ℕ → List Case
+cutterCases w =
+    number (cutFault (take 659 w)) 18
+    ∷ number (cutFault (w ++ (0 ∷ []))) 18
+    ∷ number (cutFault (take 659 (drop 64 (changed limitWords 18 2)))) 18
+    ∷ number (cutFault (drop 64 (changed limitWords 18 2))) 6
+    ∷ record { found = cutRows (cutAnswer (take 659 w)); expected = 18 ∷ replicate 347 0 }
+    ∷ []
+
+unfoldable pub answerCases : List ℕ → List Case
+answerCases d =
+    number (settleFault d 0) 4
+    ∷ number (viewFault d 9 9) 4
+    ∷ number (linePartFault d 0) 0
+    ∷ number (linePartFault (take 63 d) 9) 1
+    ∷ booked d (replicate 152 170) (replicate 152 170)
+    ∷ printed d (linesOf ("refused 4" ∷ []))
+    ∷ record { found = viewRows (viewAnswer d 0 0); expected = 4 ∷ replicate 68 0 }
+    ∷ []
+
+unfoldable pub refusedCases : List Case
+refusedCases = headerCases ++ lineCases ++ orderCases ++ cutterCases (drop 64 limitDay) ++ answerCases (changed limitWords 4 10000001)
+
+-- all of this file, opened
+unfoldable pub refusedOpened : ℕ
+unfolding limitWords limitDay changed twoWords cutterCases answerCases refusedCases
+refusedOpened = 0
