@@ -1,10 +1,10 @@
--- Evidence beside the definitions, which name none of it: K1 to K10 (Figures), a pool worked by hand (Pool), three days with the figures of an
+-- Evidence beside the definitions, which name none of it: K1 to K10 (Figures), figures worked by hand (ByHand), three days with the figures of an
 -- implementation written from the papers by other hands (Base1 to Base3) and each refusal on both sides of its boundary (Refused), all
 -- computed on the definitions (Lemma).
 pub mod Cases
 pub mod Opened
 pub mod Figures
-pub mod Pool
+pub mod ByHand
 pub mod Base1
 pub mod Base2
 pub mod Base3

@@ -29,13 +29,24 @@ same-sound (x ∷ xs) (y ∷ ys) e =
     λ i. eqb-true x y (and-front (eqb x y) (same xs ys) e) i ∷ same-sound xs ys (and-back (eqb x y) (same xs ys) e) i
 
 -- the cases before and behind in a list that passes
-pub every-front : (cs ds : List Case) → every (cs ++ ds) ≡ true → every cs ≡ true
+every-front : (cs ds : List Case) → every (cs ++ ds) ≡ true → every cs ≡ true
 every-front [] ds e = refl
 every-front (c ∷ cs) ds e = and-both (same (c .found) (c .expected)) (every cs) (and-front (same (c .found) (c .expected)) (every (cs ++ ds)) e) (every-front cs ds (and-back (same (c .found) (c .expected)) (every (cs ++ ds)) e))
 
-pub every-back : (cs ds : List Case) → every (cs ++ ds) ≡ true → every ds ≡ true
+every-back : (cs ds : List Case) → every (cs ++ ds) ≡ true → every ds ≡ true
 every-back [] ds e = e
 every-back (c ∷ cs) ds e = every-back cs ds (and-back (same (c .found) (c .expected)) (every (cs ++ ds)) e)
+
+-- the cases of several lists, one after another
+abbrev pub all : List (List Case) → List Case
+all [] = []
+all (cs ∷ ls) = cs ++ all ls
+
+-- each of them passes where all do
+pub part-holds : (ls : List (List Case)) → every (all ls) ≡ true → (i : ℕ) → every (getD ls i []) ≡ true
+part-holds [] e i = refl
+part-holds (cs ∷ ls) e zero = every-front cs (all ls) e
+part-holds (cs ∷ ls) e (suc i) = part-holds ls (every-back cs (all ls) e) i
 
 -- case i of a list; past its end a case of nothing
 abbrev pub caseAt : List Case → ℕ → Case

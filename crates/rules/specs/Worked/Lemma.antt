@@ -1,5 +1,5 @@
--- The worked days and the refusals: one lemma, computed on the definitions, and what it gives for each day. The day that costs least is first:
--- a wrong definition is refused at the first case that it changes.
+-- The worked days and the refusals: one lemma, computed on the definitions, and what it gives for each day. What costs least is first: a wrong
+-- definition is refused at the first case that it changes.
 use Prim.Native.Nat.{ℕ}
 use mathlib.Core.Path.{_≡_, refl}
 use mathlib.Core.List.{List, [], _∷_, _++_}
@@ -10,41 +10,38 @@ use Rattle.rules.specs.Book.{bookAfter}
 use Rattle.rules.specs.Report.{reportText}
 use Rattle.rules.specs.Worked.Cases.{Case, every}
 use Rattle.rules.specs.Worked.Opened.{opened}
-use Rattle.rules.specs.Worked.Laws.{every-front, every-back, case-holds, number-holds}
-use Rattle.rules.specs.Worked.Pool.{poolCases}
+use Rattle.rules.specs.Worked.Laws.{all, part-holds, case-holds, number-holds}
+use Rattle.rules.specs.Worked.ByHand.{handCases}
 use Rattle.rules.specs.Worked.Base1.{base1Day, base1Book, base1Text, base1CasesOn, base1Cases, base1Opened}
 use Rattle.rules.specs.Worked.Base2.{base2Day, base2Book, base2Text, base2CasesOn, base2Cases, base2Opened}
 use Rattle.rules.specs.Worked.Base3.{base3Day, base3Book, base3Text, base3CasesOn, base3Cases, base3Opened}
-use Rattle.rules.specs.Worked.Refused.{refusedCases, refusedOpened}
+use Rattle.rules.specs.Worked.Refused.{refusedCases, limitCases, refusedOpened}
 
-pub worked : every (poolCases ++ (base2Cases ++ (base3Cases ++ (base1Cases ++ refusedCases)))) ≡ true
-unfolding opened poolCases base1Opened base2Opened base3Opened refusedOpened
+abbrev parts : List (List Case)
+parts = handCases ∷ refusedCases ∷ base2Cases ∷ base3Cases ∷ base1Cases ∷ limitCases ∷ []
+
+pub worked : every (all parts) ≡ true
+unfolding opened handCases base1Opened base2Opened base3Opened refusedOpened
 worked = refl
 
--- every case of each: with `case-holds` the equation of any of them
-pub pool : every poolCases ≡ true
-pool = every-front poolCases (base2Cases ++ (base3Cases ++ (base1Cases ++ refusedCases))) worked
-
-behind-pool : every (base2Cases ++ (base3Cases ++ (base1Cases ++ refusedCases))) ≡ true
-behind-pool = every-back poolCases (base2Cases ++ (base3Cases ++ (base1Cases ++ refusedCases))) worked
-
-pub base-2 : every base2Cases ≡ true
-base-2 = every-front base2Cases (base3Cases ++ (base1Cases ++ refusedCases)) behind-pool
-
-behind-base-2 : every (base3Cases ++ (base1Cases ++ refusedCases)) ≡ true
-behind-base-2 = every-back base2Cases (base3Cases ++ (base1Cases ++ refusedCases)) behind-pool
-
-pub base-3 : every base3Cases ≡ true
-base-3 = every-front base3Cases (base1Cases ++ refusedCases) behind-base-2
-
-behind-base-3 : every (base1Cases ++ refusedCases) ≡ true
-behind-base-3 = every-back base3Cases (base1Cases ++ refusedCases) behind-base-2
-
-pub base-1 : every base1Cases ≡ true
-base-1 = every-front base1Cases refusedCases behind-base-3
+-- every case of each part: with `case-holds` the equation of any of them
+pub by-hand : every handCases ≡ true
+by-hand = part-holds parts worked 0
 
 pub refused : every refusedCases ≡ true
-refused = every-back base1Cases refusedCases behind-base-3
+refused = part-holds parts worked 1
+
+pub base-2 : every base2Cases ≡ true
+base-2 = part-holds parts worked 2
+
+pub base-3 : every base3Cases ≡ true
+base-3 = part-holds parts worked 3
+
+pub base-1 : every base1Cases ≡ true
+base-1 = part-holds parts worked 4
+
+pub at-limits : every limitCases ≡ true
+at-limits = part-holds parts worked 5
 
 -- each day is accepted, its book is the third implementation's with a lent byte beyond unchanged, and so is its report
 pub base-1-accepted : dayFault base1Day ≡ 0

@@ -57,10 +57,9 @@ headerCases =
     ∷ number (dayFault (changed limitWords 15 2)) 5
     ∷ []
 
--- a line: side, accreditation; the first bid's count, breaks and prices; the second bid's unused slots; the last bid's last slot;
--- a greatest break one lower, so that hedge and totals are M + 1; a withdrawal with a hedge; a pricing and an operating total of M + 1; an actual
-abbrev lineCases : List Case
-lineCases =
+-- a line: side, accreditation; the first bid's count, breaks and prices; the second bid's unused slots
+abbrev bidCases : List Case
+bidCases =
     number (dayFault (changed limitWords 18 2)) 6
     ∷ number (dayFault (changed limitWords 19 2)) 6
     ∷ number (dayFault (changed limitWords 21 12)) 7
@@ -72,28 +71,20 @@ lineCases =
     ∷ number (dayFault (changed limitWords 34 9999999)) 9
     ∷ number (dayFault (changed limitWords 46 2)) 10
     ∷ number (dayFault (changed limitWords 57 5)) 10
-    ∷ number (dayFault (changed limitWords 135 5)) 10
-    ∷ number (dayFault (changed limitWords 32 199999999)) 11
-    ∷ number (dayFault (changed limitWords 18 1)) 11
-    ∷ number (dayFault (changed limitWords 150 1)) 12
-    ∷ number (dayFault (changed limitWords 180 200000001)) 13
     ∷ []
 
--- all at their limits, accepted; two faults, of which the first met counts: 4 and 5, 5 and 6, 6 and 7, 7 and 8, 8 and 9, 9 and 10 (each of the whole
--- bid), 10 and in the next bid 7, 12 and 13, 6 and 14; and two lines with equal keys
+-- two faults, of which the first met counts: 4 and 5, 5 and 6, 6 and 7, 7 and 8, 8 and 9, 9 and 10 (each of the whole bid), 10 and in the next
+-- bid 7, 6 and 14
 abbrev orderCases : List Case
 orderCases =
-    number (dayFault limitDay) 0
-    ∷ number (dayFault (changed (set limitWords 14 10000001) 9 2)) 4
+    number (dayFault (changed (set limitWords 14 10000001) 9 2)) 4
     ∷ number (dayFault (changed (set limitWords 15 2) 18 2)) 5
     ∷ number (dayFault (changed (set limitWords 19 2) 21 0)) 6
     ∷ number (dayFault (changed (set limitWords 21 12) 22 0)) 7
     ∷ number (dayFault (changed (set limitWords 32 200000001) 33 10000001)) 8
     ∷ number (dayFault (changed (set limitWords 56 10000001) 46 2)) 9
     ∷ number (dayFault (changed (set limitWords 46 2) 67 0)) 10
-    ∷ number (dayFault (changed (set limitWords 174 1) 180 200000001)) 12
     ∷ number (dayFault (changed twoWords 19 2)) 6
-    ∷ number (dayFault (bytesOf twoWords)) 14
     ∷ []
 
 -- the cutter, on the day's line, by its length before anything else; and what a refused day is answered with by every call
@@ -117,10 +108,25 @@ answerCases d =
     ∷ record { found = viewRows (viewAnswer d 0 0); expected = 4 ∷ replicate 68 0 }
     ∷ []
 
+-- what is met before a line's last bid
 unfoldable pub refusedCases : List Case
-refusedCases = headerCases ++ lineCases ++ orderCases ++ cutterCases (drop 64 limitDay) ++ answerCases (changed limitWords 4 10000001)
+refusedCases = headerCases ++ bidCases ++ orderCases ++ cutterCases (drop 64 limitDay) ++ answerCases (changed limitWords 4 10000001)
+
+-- what is met behind it: the day at every limit, accepted; the last bid's last slot; a greatest break one lower, so that hedge and totals are M + 1;
+-- a withdrawal with a hedge; a pricing total of M + 1; an operating one, and 13; an actual; equal keys
+unfoldable pub limitCases : List Case
+limitCases =
+    number (dayFault limitDay) 0
+    ∷ number (dayFault (changed limitWords 135 5)) 10
+    ∷ number (dayFault (changed limitWords 32 199999999)) 11
+    ∷ number (dayFault (changed limitWords 18 1)) 11
+    ∷ number (dayFault (changed limitWords 150 1)) 12
+    ∷ number (dayFault (changed (set limitWords 174 1) 180 200000001)) 12
+    ∷ number (dayFault (changed limitWords 180 200000001)) 13
+    ∷ number (dayFault (bytesOf twoWords)) 14
+    ∷ []
 
 -- all of this file, opened
 unfoldable pub refusedOpened : ℕ
-unfolding limitWords limitDay changed twoWords cutterCases answerCases refusedCases
+unfolding limitWords limitDay changed twoWords cutterCases answerCases refusedCases limitCases
 refusedOpened = 0

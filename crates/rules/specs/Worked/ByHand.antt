@@ -1,12 +1,16 @@
 -- What the worked days leave open, worked out by hand in document 01's words: a pooled final payment whose quotient is rounded and one that
--- is its initial payment, and a line that is hedged in part.
+-- is its initial payment, an adjusted total that an earlier one makes up for, AGINO back over totals that rise, fall and rise, and a line that
+-- is hedged in part.
 use Prim.Native.Nat.{ℕ}
-use mathlib.Core.List.{List, [], _∷_}
+use mathlib.Core.List.{List, [], _∷_, map}
 use lib.ListN.{length, getD, replicate}
+use lib.IntN.{pos, negsuc}
+use Rattle.rules.specs.Fold.{five}
 use Rattle.rules.specs.Steps.{paid}
+use Rattle.rules.specs.Quantities.{agino}
 use Rattle.rules.specs.declared.Step.{Step}
 use Rattle.rules.specs.Payments.{bit, Day, stepFinal}
-use Rattle.rules.specs.Totals.{linePayment, total}
+use Rattle.rules.specs.Totals.{linePayment, total, adjusted}
 use Rattle.rules.specs.Book.{bits64}
 use Rattle.rules.specs.Worked.Cases.{Case, number, neg}
 use Rattle.rules.specs.Worked.Figures.{tableLine}
@@ -58,13 +62,17 @@ finalsOf claw =
     bits64 (stepFinal (poolDay claw) 1 0 0) ∷ bits64 (stepFinal (poolDay claw) 1 0 1) ∷ bits64 (stepFinal (poolDay claw) 1 1 0)
     ∷ bits64 (stepFinal (poolDay claw) 1 2 0) ∷ bits64 (stepFinal (poolDay claw) 1 3 0) ∷ []
 
-unfoldable pub poolCases : List Case
-poolCases =
+unfoldable pub handCases : List Case
+handCases =
     -- T = -12 + 25 - 2 = 11, B = max(5, 6 + 2) = 8; 11 x 6 / 8 = 8, so -12 - 8 = -20 is above -36; 11 x 2 / 8 = 2, and -2 - 2 is below -2
     record { found = finalsOf 1; expected = neg 20 ∷ 25 ∷ neg 2 ∷ 0 ∷ 100 ∷ [] }
     ∷ record { found = bits64 (linePayment (poolDay 1) 1 0) ∷ bits64 (total (poolDay 1) 1) ∷ []; expected = 5 ∷ 103 ∷ [] }
     -- clawback off: the initial payments
     ∷ record { found = finalsOf 0; expected = neg 36 ∷ 25 ∷ neg 2 ∷ 0 ∷ 100 ∷ [] }
+    -- t = 5 -2 -4 3 0: a(1) = max(0, 5 - 2 - 4) = 0; a(2) = min(0, -2 + 5) = 0; a(3) = min(0, -4 + 5 - 2) = -1; a(4) = min(3, 3 + 0) = 3; a(5) = 0
+    ∷ record { found = map bits64 (five (adjusted (pos 5 ∷ negsuc 1 ∷ negsuc 3 ∷ pos 3 ∷ pos 0 ∷ []))); expected = 0 ∷ 0 ∷ neg 1 ∷ 3 ∷ 0 ∷ [] }
+    -- O = 10 50 20 60 70, AGINO(5) = 65: 65 - (70 - 60) = 55, 65 - (70 - 20) = 15 twice, 65 - (70 - 10) = 5 going back
+    ∷ record { found = five (agino (10 ∷ 50 ∷ 20 ∷ 60 ∷ 70 ∷ []) 5); expected = 5 ∷ 15 ∷ 15 ∷ 55 ∷ 65 ∷ [] }
     -- K1's line is accredited, with hedge 37: its step that ends at 37 is hedged, the next one, which ends at 45, is paid
     ∷ number (bit (paid tableLine 37 0)) 0
     ∷ number (bit (paid tableLine 45 0)) 1
