@@ -1,8 +1,19 @@
-/* Mewikofu for C and other languages. Link libengine_c.a, which `rt staticlib engine_c` writes to target/staticlib: settling, the step view and the line
-   part; and for the cutter libcutter_c.a, which `rt staticlib cutter_c` writes and which has nothing of the engine.
+/* Mewikofu for C and other languages.
 
-   A function takes any bytes: no input is left out of its contract, which stands in crates/engine_c/src and crates/cutter_c/src. The caller lends
-   arrays of at least the lengths declared here; they may not overlap each other or the bytes that are read. */
+   Link libmewikofu (settling, the step view, the line part) and for the cutter libmewikofu_cut, or the shared object, which has both: tools/install
+   installs them. In the repository they are target/staticlib/libengine_c.a, which `rt staticlib engine_c` writes, and libcutter_c.a, which
+   `rt staticlib cutter_c` writes and which has nothing of the engine.
+
+   Bytes. A function takes any bytes: no input is left out of its contract, which stands in crates/engine_c/src and crates/cutter_c/src.
+
+   Pointers. They are the caller's part: the contracts speak of lent bytes, not of addresses. Each pointer lends as many bytes or values as are declared here,
+   aligned for its type; the bytes at `day` and `line` are read, all other places are written. A written place may not overlap another written place nor the
+   bytes that are read: with overlapping arrays the answer is not defined. NULL is a valid pointer only where the length beside it is 0. No other thread
+   may write to what is lent while a call runs. Nothing is kept after it.
+
+   Threads and signals. The functions have no writable data, take no memory from the heap and call nothing but memcpy and memset. So any number of threads may
+   call them at once without a lock, each with places of its own to be written; the bytes that are read may be shared. They may be called from a signal handler.
+   A call takes less than 20 KB of stack: settling a day of 64 lines takes 15,752 bytes. tools/archive-check holds the archives to this. */
 #ifndef MEWIKOFU_H
 #define MEWIKOFU_H
 
@@ -12,6 +23,14 @@
 #ifdef __cplusplus
 extern "C" {
 #endif
+
+/* The version of this header; the number is 10000 major + 100 minor + patch. tools/version writes both from the file VERSION. */
+#define MEWIKOFU_VERSION "0.2.0"
+#define MEWIKOFU_VERSION_NUMBER 200
+
+/* The version of the library that is linked, as MEWIKOFU_VERSION has it: a shared object may be another one than the header's. The installed libraries and the
+   shared object have this function; the archives of target/staticlib have the proved functions alone. */
+const char *mewikofu_version(void);
 
 /* Numbers. A refusal is the first fault met in the order of document 01's table, "Where each refusal is checked" (docs/RULES.md says document 01, the
    scope, in our words). Beside each are its place, which the functions below name, and its condition; n is the day's line count, M the greatest break

@@ -1,5 +1,5 @@
 /* Settles the day file named on the command line and prints its lines and totals.
-   Ends with 0 where the day is settled, 1 where it is refused, 2 where the file can't be read. */
+   Ends with 0 where the day is settled, 1 where it is refused, 2 where the file can't be read or the output can't be written. */
 #include "mewikofu.h"
 
 #include <inttypes.h>
@@ -50,25 +50,37 @@ static void print_book(void)
     printf("\n");
 }
 
+/* Reads the file's bytes into `day`, at most one more than the longest day has. Answers whether it could be read. */
+static int read_day(const char *name, size_t *length)
+{
+    FILE *file = fopen(name, "rb");
+    if (file == NULL)
+        return 0;
+    *length = fread(day, 1, sizeof day, file);
+    int unread = ferror(file);
+    return fclose(file) == 0 && !unread;
+}
+
 int main(int count, char **arguments)
 {
-    FILE *file = count == 2 ? fopen(arguments[1], "rb") : NULL;
-    if (file == NULL) {
-        fprintf(stderr, "usage: settle DAY, a file that can be read\n");
+    size_t length;
+    if (count != 2) {
+        fprintf(stderr, "usage: settle DAY\n");
         return 2;
     }
-    size_t length = fread(day, 1, sizeof day, file);
-    int unread = ferror(file);
-    fclose(file);
-    if (unread) {
+    if (!read_day(arguments[1], &length)) {
         fprintf(stderr, "%s can't be read\n", arguments[1]);
         return 2;
     }
     uint32_t number = mewikofu_settle(day, length, book, sizeof book);
-    if (number != MEWIKOFU_ACCEPTED) {
+    if (number == MEWIKOFU_ACCEPTED)
+        print_book();
+    else
         printf("refused %" PRIu32 ": %s\n", number, mewikofu_words(number));
-        return 1;
+    /* A full disk shows when the last bytes are written. */
+    if (fflush(stdout) != 0 || ferror(stdout)) {
+        fprintf(stderr, "the output can't be written\n");
+        return 2;
     }
-    print_book();
-    return 0;
+    return number == MEWIKOFU_ACCEPTED ? 0 : 1;
 }

@@ -7,7 +7,11 @@ import doctest
 import os
 import pickle
 import re
+import shutil
+import subprocess
 import sys
+import tempfile
+import threading
 import unittest
 from pathlib import Path
 
@@ -67,7 +71,11 @@ class K10Test(unittest.TestCase):
             modified=paid, finals=paid,
         )
         self.assertEqual(step, expected)
-        self.assertEqual([step.match(r, 4) for r in (1, 2, 3)], [0, 500, 0])
+        self.assertEqual([step.matched(r, 3) for r in (0, 1, 2)], [0, 500, 0])
+        for r, s in ((3, 3), (-1, 3), (0, 5)):
+            self.assertRaises(ValueError, step.matched, r, s)
+        with self.assertWarns(DeprecationWarning):
+            self.assertEqual([step.match(r, 4) for r in (1, 2, 3)], [0, 500, 0])
 
     def test_places(self):
         self.assertEqual(number(mewikofu.view, K10, 0, 2), 17)
@@ -153,6 +161,53 @@ class RefusalTest(unittest.TestCase):
         self.assertRaises(KeyError, mewikofu.Refusal, len(rows) + 1)
 
 
+class ThreadsTest(unittest.TestCase):
+    def test_threads(self):
+        # ctypes lets go of the interpreter's lock during a call, so calls run side by side.
+        books = [(day, mewikofu.settle(day)) for day in ((ROOT / f"examples/{name}.day").read_bytes() for name in ("both-sides", "withdrawals"))]
+        wrong = []
+
+        def work():
+            for _ in range(200):
+                wrong.extend(day for day, book in books if mewikofu.settle(day) != book)
+
+        threads = [threading.Thread(target=work) for _ in range(4)]
+        for thread in threads:
+            thread.start()
+        for thread in threads:
+            thread.join()
+        self.assertEqual(wrong, [])
+
+
+class ImportTest(unittest.TestCase):
+    """The import in a process of its own, of a package without its shared object."""
+
+    def imported(self, folder, library):
+        """Exit status and the last line of what is said."""
+        environment = {**os.environ, "PYTHONPATH": folder, "MEWIKOFU_LIBRARY": library}
+        program = [sys.executable, "-c", "import mewikofu"]
+        ended = subprocess.run(program, cwd=folder, env=environment, stderr=subprocess.PIPE, text=True)
+        return ended.returncode, "".join(ended.stderr.splitlines()[-1:])
+
+    def test_shared_object(self):
+        with tempfile.TemporaryDirectory() as folder:
+            os.mkdir(f"{folder}/mewikofu")
+            shutil.copy(HERE.parent / "mewikofu/__init__.py", f"{folder}/mewikofu")
+            status, said = self.imported(folder, "")
+            self.assertEqual(status, 1)
+            self.assertIn(f"ImportError: {folder}/mewikofu/libmewikofu.so is missing", said)
+            self.assertIn("run `bindings/python/build`", said)
+            status, said = self.imported(folder, f"{folder}/none.so")
+            self.assertEqual(status, 1)
+            self.assertIn("ImportError: MEWIKOFU_LIBRARY names a shared object that can't be loaded", said)
+            self.assertEqual(self.imported(folder, str(HERE.parent / "mewikofu/libmewikofu.so")), (0, ""))
+
+
+class VersionTest(unittest.TestCase):
+    def test_version(self):
+        self.assertEqual(mewikofu.__version__, (ROOT / "VERSION").read_text().strip())
+
+
 class PageTest(unittest.TestCase):
     def test_examples(self):
         # The page's examples are written for the repository's root.
@@ -169,7 +224,7 @@ class PageTest(unittest.TestCase):
 
 class ReportTest(unittest.TestCase):
     def test_example_days(self):
-        for name in ("k10", "both-sides", "withdrawals", "rules"):
+        for name in ("k10", "both-sides", "withdrawals", "rules", "winter"):
             day = (ROOT / f"examples/{name}.day").read_bytes()
             self.assertEqual(report(mewikofu.settle(day)), (ROOT / f"examples/{name}.report").read_text())
 

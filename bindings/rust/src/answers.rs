@@ -22,7 +22,7 @@ pub struct View {
     pub msiq: [u32; SCHEDULES],
     /// C.
     pub constrained: [u32; SCHEDULES],
-    /// m(r, s) at `match_place(r, s)`.
+    /// `matched(r, s)` at `match_place(r, s)`.
     pub matches: [u32; MATCHES],
     /// Payments, in $0.0000001.
     pub initial: [i64; SCHEDULES],
@@ -31,7 +31,18 @@ pub struct View {
     pub finals: [i64; SCHEDULES],
 }
 
-/// The place of m(r, s) among the matches, with r below s, schedules counted from 0.
+impl View {
+    /// How much of the fall in schedule s is matched with the rise in r, schedules counted from 0, r below s: document 01's m(r + 1, s + 1).
+    pub fn matched(&self, r: usize, s: usize) -> u32 {
+        assert!(
+            r < s && s < SCHEDULES,
+            "r and s are schedules counted from 0, r below s"
+        );
+        self.matches[match_place(r, s)]
+    }
+}
+
+/// The place of `View::matched(r, s)` among the matches, with r below s, schedules counted from 0.
 pub const fn match_place(r: usize, s: usize) -> usize {
     s * (s - 1) / 2 + r
 }

@@ -1,6 +1,8 @@
 //! Settlement of one gas day by the proved code of `libengine_c.a` and `libcutter_c.a` (include/mewikofu.h), for Rust programs.
 //!
 //! Every function takes any bytes. A refusal is the first fault met in the order of document 01's table, "Where each refusal is checked".
+//! Lines, steps and schedules count from 0. The functions have no writable data and may be called from any number of threads at once; a call
+//! takes less than 20 KB of stack.
 
 mod answers;
 mod book;
@@ -10,6 +12,9 @@ mod refusal;
 pub use answers::{match_place, Cut, View};
 pub use book::{book_bytes, Book, BookLine, Side};
 pub use refusal::Refusal;
+
+/// The version of this crate, which is that of the repository's file VERSION.
+pub const VERSION: &str = env!("CARGO_PKG_VERSION");
 
 pub const MOST_LINES: usize = 64;
 pub const SCHEDULES: usize = 5;

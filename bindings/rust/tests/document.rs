@@ -23,6 +23,7 @@ fn k10() {
     let step = view(K10, 0, 1).unwrap();
     assert_eq!(step.constrained, [0, 1000, 1000, 500, 500]);
     assert_eq!(step.matches[match_place(1, 3)], 500);
+    assert_eq!([0, 1, 2].map(|r| step.matched(r, 3)), [0, 500, 0]);
     assert_eq!(line_part(K10, 0).map(<[u8]>::len), Ok(660));
 }
 
@@ -51,6 +52,15 @@ fn a_refused_day() {
         text.ends_with("(document 01, \"Where each refusal is checked\", each line)"),
         "{text}"
     );
+}
+
+/// One version: the file VERSION, this crate's and the header's.
+#[test]
+fn version() {
+    let version = include_str!("../../../VERSION").trim();
+    assert_eq!(mewikofu::VERSION, version);
+    let defined = format!("\n#define MEWIKOFU_VERSION \"{version}\"\n");
+    assert!(HEADER.contains(&defined), "{defined}");
 }
 
 /// Number, name, place and words of each row of the table of refusals.

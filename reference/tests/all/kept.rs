@@ -39,13 +39,15 @@ fn examples() {
     }
 }
 
-/// The worked day of docs/RULES.md, whose report and steps were worked out by hand.
+/// The worked day of docs/RULES.md, whose report and steps were worked out by hand, and the winter day, whose report was.
 #[test]
 fn worked_by_hand() {
-    let day = stored("examples/rules.day");
-    for (program, file) in [("settle", "rules.report"), ("steps", "rules.steps")] {
-        let shown = run(&[program], &day);
-        assert_eq!(stored(&format!("examples/{file}")), shown, "{file}");
+    for name in ["rules", "winter"] {
+        let day = stored(&format!("examples/{name}.day"));
+        for (program, ending) in [("settle", "report"), ("steps", "steps")] {
+            let file = format!("examples/{name}.{ending}");
+            assert_eq!(stored(&file), run(&[program], &day), "{file}");
+        }
     }
 }
 

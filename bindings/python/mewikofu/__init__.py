@@ -1,15 +1,43 @@
 """Settlement of one gas day by the proved code of libengine_c.a and libcutter_c.a (include/mewikofu.h), for Python programs.
 
 Every function takes any bytes-like object and raises Refusal for the first fault met in the order of document 01's table,
-"Where each refusal is checked". The shared object is made by bindings/python/build; MEWIKOFU_LIBRARY in the environment names another.
+"Where each refusal is checked". Lines, steps and schedules count from 0. The functions may be called from several threads.
+
+The shared object is in the package: bindings/python/build or pip put it there. MEWIKOFU_LIBRARY in the environment names another.
 """
+
+from __future__ import annotations
 
 import ctypes
 import operator
 import os
 import struct
+import warnings
 from dataclasses import dataclass
 from pathlib import Path
+from typing import TYPE_CHECKING, Any, Dict, List, SupportsIndex, Tuple, Type
+
+if TYPE_CHECKING:
+    from _typeshed import ReadableBuffer, WriteableBuffer
+
+__all__ = [
+    "MATCHES",
+    "MOST_LINES",
+    "MOST_STEPS",
+    "SCHEDULES",
+    "Book",
+    "BookLine",
+    "Cut",
+    "Refusal",
+    "View",
+    "book_bytes",
+    "cut",
+    "line_part",
+    "settle",
+    "settle_into",
+    "view",
+]
+__version__ = "0.2.0"
 
 MOST_LINES = 64
 SCHEDULES = 5
@@ -18,7 +46,7 @@ MATCHES = 10
 
 # Place and words of each number.
 # tools/refusals writes from here, from docs/REFUSALS.md.
-_REFUSALS = {
+_REFUSALS: Dict[int, Tuple[str, str]] = {
     1: ("header", "the file is under 64 bytes"),
     2: ("header", "the line count is 0 or above 64"),
     3: ("header", "the header's offsets or length, or the file's length, aren't those of its line count"),
@@ -44,12 +72,16 @@ _REFUSALS = {
 class Refusal(Exception):
     """A refused input: its number, its place in document 01's table and what is wrong in words."""
 
-    def __init__(self, number):
+    number: int
+    place: str
+    words: str
+
+    def __init__(self, number: int) -> None:
         self.number = number
         self.place, self.words = _REFUSALS[number]
         super().__init__(f'refused {number}: {self.words} (document 01, "Where each refusal is checked", {self.place})')
 
-    def __reduce__(self):
+    def __reduce__(self) -> Tuple[Type[Refusal], Tuple[int]]:
         return Refusal, (self.number,)
 
 
@@ -61,84 +93,91 @@ class BookLine:
     point: int
     withdrawal: bool
     steps: int
-    payments: tuple
+    payments: Tuple[int, ...]
 
 
 @dataclass(frozen=True)
 class Book:
     """A settled day: lines in the day's order, t and a by schedule in $0.0000001, and the book's bytes."""
 
-    lines: tuple
-    totals: tuple
-    adjusted: tuple
+    lines: Tuple[BookLine, ...]
+    totals: Tuple[int, ...]
+    adjusted: Tuple[int, ...]
     data: bytes
 
 
 @dataclass(frozen=True)
 class View:
-    """The figures of one step; tuples are by schedule. Payments are in $0.0000001."""
+    """The figures of one step; tuples are by schedule, counted from 0, but matches, of which matched(r, s) is one. Payments are in $0.0000001."""
 
     end: int
     width: int
     actual: int
-    price: tuple
-    flag: tuple
-    operating: tuple
-    pricing: tuple
-    agino: tuple
-    msiq: tuple
-    constrained: tuple
-    matches: tuple
-    initial: tuple
-    revised: tuple
-    modified: tuple
-    finals: tuple
+    price: Tuple[int, ...]
+    flag: Tuple[int, ...]
+    operating: Tuple[int, ...]
+    pricing: Tuple[int, ...]
+    agino: Tuple[int, ...]
+    msiq: Tuple[int, ...]
+    constrained: Tuple[int, ...]
+    matches: Tuple[int, ...]
+    initial: Tuple[int, ...]
+    revised: Tuple[int, ...]
+    modified: Tuple[int, ...]
+    finals: Tuple[int, ...]
 
-    def match(self, r, s):
-        """m(r, s), schedules 1 to 5, r below s."""
+    def matched(self, r: int, s: int) -> int:
+        """How much of the fall in schedule s is matched with the rise in r: document 01's m(r + 1, s + 1). Schedules count from 0, r below s."""
+        if not 0 <= r < s < SCHEDULES:
+            raise ValueError("r and s are schedules counted from 0, r below s")
+        return self.matches[s * (s - 1) // 2 + r]
+
+    def match(self, r: int, s: int) -> int:
+        """m(r, s) with schedules counted from 1, as no other place of this module counts them. Deprecated: use matched(r - 1, s - 1)."""
+        warnings.warn("View.match counts schedules from 1; use View.matched, which counts from 0", DeprecationWarning, stacklevel=2)
         if not 1 <= r < s <= SCHEDULES:
-            raise ValueError("r and s are schedules, r below s")
-        return self.matches[(s - 1) * (s - 2) // 2 + r - 1]
+            raise ValueError("r and s are schedules counted from 1, r below s")
+        return self.matched(r - 1, s - 1)
 
 
 @dataclass(frozen=True)
 class Cut:
     """The steps of one line: upper ends; uncapped prices and flags by schedule and step; how many flags are set."""
 
-    ends: tuple
-    prices: tuple
-    flags: tuple
-    missing: tuple
+    ends: Tuple[int, ...]
+    prices: Tuple[Tuple[int, ...], ...]
+    flags: Tuple[Tuple[bool, ...], ...]
+    missing: Tuple[int, ...]
 
 
-def settle(day):
+def settle(day: ReadableBuffer) -> Book:
     """The book of a day."""
     data = bytearray(book_bytes(MOST_LINES))
     settle_into(day, data)
     return _book(bytes(data))
 
 
-def settle_into(day, book):
+def settle_into(day: ReadableBuffer, book: WriteableBuffer) -> None:
     """Settles a day into the lent bytes, a bytearray or another that can be written. Those beyond 96 + 56 n are unchanged; refused, all are."""
-    day = _bytes(day)
+    data = _bytes(day)
     lent = memoryview(book).cast("B")
     place = (ctypes.c_uint8 * lent.nbytes).from_buffer(lent)
-    _accept(_library.mewikofu_settle(day, len(day), place, lent.nbytes))
+    _accept(_library.mewikofu_settle(data, len(data), place, lent.nbytes))
 
 
-def view(day, line, step):
+def view(day: ReadableBuffer, line: SupportsIndex, step: SupportsIndex) -> View:
     """Every figure of a step of a line, both counted from 0."""
-    day = _bytes(day)
+    data = _bytes(day)
     places = [kind() for kind in _VIEW]
-    _accept(_library.mewikofu_view(day, len(day), _size(line), _size(step), *places))
+    _accept(_library.mewikofu_view(data, len(data), _size(line), _size(step), *places))
     return View(*map(_value, places))
 
 
-def cut(line):
+def cut(line: ReadableBuffer) -> Cut:
     """Cuts the 660 bytes of one line into its steps."""
-    line = _bytes(line)
+    data = _bytes(line)
     count, ends, prices, flags, missing = places = [kind() for kind in _CUT]
-    _accept(_library.mewikofu_cut(line, len(line), *places))
+    _accept(_library.mewikofu_cut(data, len(data), *places))
     steps = range(count.value)
     return Cut(
         ends=tuple(ends[k] for k in steps),
@@ -148,7 +187,7 @@ def cut(line):
     )
 
 
-def line_part(day, k):
+def line_part(day: ReadableBuffer, k: SupportsIndex) -> memoryview:
     """The bytes of line k (from 0) within the day's own, as a memoryview of them. Only the header is checked."""
     data = _bytes(day)
     at, length = ctypes.c_size_t(), ctypes.c_size_t()
@@ -156,12 +195,12 @@ def line_part(day, k):
     return memoryview(day).cast("B")[at.value : at.value + length.value]
 
 
-def book_bytes(n):
+def book_bytes(n: int) -> int:
     """The length of a book of n lines."""
     return 96 + 56 * n
 
 
-def _book(data):
+def _book(data: bytes) -> Book:
     n = struct.unpack_from("<I", data)[0]
     pairs = struct.unpack_from("<10q", data, 16)
     entries = struct.iter_unpack("<4I5q", data[96 : book_bytes(n)])
@@ -169,24 +208,24 @@ def _book(data):
     return Book(lines, pairs[0::2], pairs[1::2], data[: book_bytes(n)])
 
 
-def _bytes(data):
+def _bytes(data: ReadableBuffer) -> bytes:
     """A copy of the caller's bytes, which no call can change."""
     return memoryview(data).tobytes()
 
 
-def _size(place):
+def _size(place: SupportsIndex) -> int:
     """A place from 0. Those that size_t can't hold are beyond every line and step, as its greatest is."""
-    place = operator.index(place)
-    if place < 0:
+    index = operator.index(place)
+    if index < 0:
         raise ValueError("a line or step counts from 0")
-    return min(place, ctypes.c_size_t(-1).value)
+    return min(index, ctypes.c_size_t(-1).value)
 
 
-def _value(place):
+def _value(place: Any) -> Any:
     return place.value if isinstance(place, ctypes.c_uint32) else tuple(place)
 
 
-def _accept(number):
+def _accept(number: int) -> None:
     if number != 0:
         raise Refusal(number)
 
@@ -194,8 +233,8 @@ def _accept(number):
 _WORDS = ctypes.c_uint32 * SCHEDULES
 _MONEY = ctypes.c_int64 * SCHEDULES
 # The lent places in the header's order.
-_VIEW = [ctypes.c_uint32] * 3 + [_WORDS] * 7 + [ctypes.c_uint32 * MATCHES] + [_MONEY] * 4
-_CUT = [
+_VIEW: List[Any] = [ctypes.c_uint32] * 3 + [_WORDS] * 7 + [ctypes.c_uint32 * MATCHES] + [_MONEY] * 4
+_CUT: List[Any] = [
     ctypes.c_uint32,
     ctypes.c_uint32 * MOST_STEPS,
     ctypes.c_uint32 * (SCHEDULES * MOST_STEPS),
@@ -204,12 +243,27 @@ _CUT = [
 ]
 
 
-def _load():
-    file = os.environ.get("MEWIKOFU_LIBRARY") or Path(__file__).parent / "build-output" / "libmewikofu.so"
-    library = ctypes.CDLL(str(file))
+def _open() -> ctypes.CDLL:
+    named = os.environ.get("MEWIKOFU_LIBRARY")
+    file = Path(named) if named else Path(__file__).parent / "libmewikofu.so"
+    try:
+        return ctypes.CDLL(str(file))
+    except OSError as error:
+        if named:
+            raise ImportError(f"MEWIKOFU_LIBRARY names a shared object that can't be loaded: {error}") from error
+        if file.exists():
+            raise ImportError(f"the shared object can't be loaded: {error}") from error
+        raise ImportError(
+            f"{file} is missing. In the repository, after `rt staticlib engine_c && rt staticlib cutter_c`, run "
+            "`bindings/python/build`, or `pip install ./bindings/python`; or name another shared object in MEWIKOFU_LIBRARY."
+        ) from None
+
+
+def _load() -> ctypes.CDLL:
+    library = _open()
     data, size = ctypes.c_char_p, ctypes.c_size_t
     lent = ctypes.POINTER
-    arguments = {
+    arguments: Dict[str, List[Any]] = {
         "mewikofu_settle": [data, size, ctypes.c_void_p, size],
         "mewikofu_view": [data, size, size, size, *map(lent, _VIEW)],
         "mewikofu_line_part": [data, size, size, lent(size), lent(size)],
