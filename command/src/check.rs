@@ -1,0 +1,134 @@
+//! `check`: whether settling accepts a day, and every fault of one that it doesn't.
+
+use crate::arguments::Options;
+use crate::input::{read_day, Input};
+use crate::outcome::{each, Problem, Result, Status};
+use crate::output::{put_json, Format, Table};
+use crate::refusals::{day_faults, explain_day, Explained, Fault};
+use serde_json::{json, Value};
+use std::ffi::OsStr;
+use std::io::Write;
+
+pub fn run(options: &Options, out: &mut dyn Write) -> Result<Status> {
+    let mut worst = Status::Accepted;
+    let mut note = |answer: &Option<Explained>| {
+        worst = worst.max(if answer.is_some() {
+            Status::Refused
+        } else {
+            Status::Accepted
+        });
+    };
+    let status = match options.format {
+        Format::Csv => {
+            let mut table = Table::new(out, &COLUMNS.map(String::from))?;
+            let status = each(&options.files, |file| {
+                let (name, answer) = check_file(file)?;
+                note(&answer);
+                put_table(&mut table, &name, &answer, options.all)
+            })?;
+            table.finish()?;
+            status
+        }
+        Format::Json => each(&options.files, |file| {
+            let (name, answer) = check_file(file)?;
+            note(&answer);
+            let value = match answer {
+                None => json!({ "file": name, "refused": 0 }),
+                Some(explained) => refused_json(&name, &limited(explained, options.all)),
+            };
+            put_json(out, &value, options.files.len() == 1)
+        })?,
+        Format::Text => each(&options.files, |file| {
+            let (name, answer) = check_file(file)?;
+            note(&answer);
+            Ok(writeln!(out, "{}", text(&name, &answer, options.all))?)
+        })?,
+    };
+    Ok(status.max(worst))
+}
+
+/// None where the day is accepted.
+pub fn check(input: &Input) -> Result<Option<Explained>> {
+    match mewikofu::settle(&input.bytes) {
+        Err(refusal) => explain_day(input, refusal).map(Some),
+        Ok(_) => match day_faults(&input.bytes, input.more).first() {
+            None => Ok(None),
+            Some(fault) => Err(Problem::failed(format!(
+                "{}: accepted; but the search for faults found {}: {}. The answer is the proved one; the search is wrong",
+                input.name, fault.number, fault.words
+            ))),
+        },
+    }
+}
+
+fn check_file(file: &OsStr) -> Result<(String, Option<Explained>)> {
+    let input = read_day(file)?;
+    let answer = check(&input)?;
+    Ok((input.name, answer))
+}
+
+/// `FILE: accepted`, or the refusal: the first fault in one row, or all in a row each.
+pub fn text(name: &str, answer: &Option<Explained>, all: bool) -> String {
+    match answer {
+        None => format!("{name}: accepted"),
+        Some(explained) if all => format!("{name}: {}", explained.rows().join("\n")),
+        Some(explained) => format!("{name}: {}", explained.first()),
+    }
+}
+
+fn limited(mut explained: Explained, all: bool) -> Explained {
+    if !all {
+        explained.faults.truncate(1);
+    }
+    explained
+}
+
+const COLUMNS: [&str; 9] = [
+    "file", "refused", "line", "schedule", "slot", "interval", "value", "limit", "why",
+];
+
+fn put_table(table: &mut Table, name: &str, answer: &Option<Explained>, all: bool) -> Result<()> {
+    let Some(explained) = answer else {
+        let mut row = vec![name.to_string(), "0".to_string()];
+        row.resize(COLUMNS.len(), String::new());
+        return table.row(&row);
+    };
+    let shown = if all { explained.faults.len() } else { 1 };
+    explained.faults.iter().take(shown).try_for_each(|fault| {
+        let place = |value: Option<usize>| value.map_or(String::new(), |value| value.to_string());
+        let Fault {
+            number,
+            line,
+            schedule,
+            slot,
+            interval,
+            value,
+            limit,
+            words,
+        } = fault;
+        table.row(&[
+            name.to_string(),
+            number.to_string(),
+            place(*line),
+            place(*schedule),
+            place(*slot),
+            place(*interval),
+            value.to_string(),
+            limit.map_or(String::new(), |limit| limit.to_string()),
+            words.clone(),
+        ])
+    })
+}
+
+/// Lines count from 0, schedules, slots and intervals from 1; what doesn't apply is null.
+pub fn refused_json(name: &str, explained: &Explained) -> Value {
+    let faults: Vec<Value> = explained
+        .faults
+        .iter()
+        .map(|fault| {
+            let Fault { number, line, schedule, slot, interval, value, limit, words } = fault;
+            json!({ "number": number, "line": line, "schedule": schedule, "slot": slot, "interval": interval, "value": value, "limit": limit, "words": words })
+        })
+        .collect();
+    json!({ "file": name, "refused": explained.refusal.number(), "words": explained.refusal.words(), "faults": faults })
+}

@@ -1,0 +1,123 @@
+//! An accepted day's figures as the proved archive answers them: its book and the view of every step.
+
+use crate::input::{read_day, Input};
+use crate::layout::*;
+use crate::outcome::{Problem, Result};
+use crate::refusals::explain_day;
+use mewikofu::{Book, BookLine, Refusal, View};
+use rayon::prelude::*;
+use std::ffi::OsStr;
+
+/// The market table.
+pub struct Market {
+    pub prices: BySchedule<u32>,
+    pub marks: BySchedule<bool>,
+    pub cap: u32,
+    pub clawback: bool,
+}
+
+pub struct Line {
+    /// As the book has it.
+    pub entry: BookLine,
+    pub accredited: bool,
+    pub hedge: u32,
+    /// What the steps' O, E and A are allocated from.
+    pub totals: Totals,
+    pub steps: Vec<View>,
+}
+
+/// A line's pricing and operating totals by schedule, and its effective actual.
+#[derive(Clone, Copy, Debug, PartialEq, Eq)]
+pub struct Totals {
+    pub pricing: BySchedule<u64>,
+    pub operating: BySchedule<u64>,
+    pub actual: u64,
+}
+
+impl Totals {
+    /// Words of a line have no limit of their own, so they are added up in 64 bits.
+    pub fn new(line: &[u8]) -> Totals {
+        let value = |place| u64::from(word(line, place));
+        let each = |total: &dyn Fn(usize, usize) -> u64| {
+            std::array::from_fn(|s| (0..SCHEDULES).map(|i| total(s, i)).sum())
+        };
+        let last = SCHEDULES - 1;
+        Totals {
+            pricing: each(&|s, i| value(pricing_place(s.min(i), i))),
+            operating: each(&|s, i| value(operating_place(s, i))),
+            actual: (0..SCHEDULES)
+                .map(|i| value(operating_place(last, i)).min(value(actual_place(i))))
+                .sum(),
+        }
+    }
+}
+
+impl Line {
+    pub fn is_hedged(&self, step: &View) -> bool {
+        step.end <= self.hedge
+    }
+
+    pub fn is_paid(&self, step: &View) -> bool {
+        self.accredited && !self.is_hedged(step)
+    }
+}
+
+pub struct Figures {
+    pub market: Market,
+    pub book: Book,
+    pub lines: Vec<Line>,
+}
+
+/// The figures of a file, or its refusal in words.
+pub fn read(file: &OsStr) -> Result<(Input, Figures)> {
+    let input = read_day(file)?;
+    match Figures::new(&input.bytes) {
+        Ok(figures) => Ok((input, figures)),
+        Err(refusal) => Err(refused(&input, refusal)),
+    }
+}
+
+/// A refused day: its number and where its first fault is.
+pub fn refused(input: &Input, refusal: Refusal) -> Problem {
+    match explain_day(input, refusal) {
+        Ok(explained) => Problem::refused(format!("{}: {}", input.name, explained.first())),
+        Err(problem) => problem,
+    }
+}
+
+impl Figures {
+    pub fn new(day: &[u8]) -> std::result::Result<Figures, Refusal> {
+        let book = mewikofu::settle(day)?;
+        let market = Market {
+            prices: std::array::from_fn(|s| word(day, MARKET_PRICE + s)),
+            marks: std::array::from_fn(|s| word(day, CAP_MARK + s) == 1),
+            cap: word(day, PRICE_CAP),
+            clawback: word(day, CLAWBACK) == 1,
+        };
+        let entries: Vec<BookLine> = book.lines().collect();
+        let lines: std::result::Result<_, Refusal> = entries
+            .into_par_iter()
+            .enumerate()
+            .map(|(k, entry)| line(day, k, entry))
+            .collect();
+        Ok(Figures {
+            market,
+            book,
+            lines: lines?,
+        })
+    }
+}
+
+fn line(day: &[u8], k: usize, entry: BookLine) -> std::result::Result<Line, Refusal> {
+    let part = mewikofu::line_part(day, k)?;
+    let steps: std::result::Result<_, Refusal> = (0..entry.steps as usize)
+        .map(|j| mewikofu::view(day, k, j))
+        .collect();
+    Ok(Line {
+        accredited: word(part, ACCREDITATION) == 1,
+        hedge: word(part, HEDGE),
+        totals: Totals::new(part),
+        entry,
+        steps: steps?,
+    })
+}

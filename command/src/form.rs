@@ -1,0 +1,146 @@
+//! The text form: its sections, their keys, and the words of the day file that each key gives.
+
+use crate::layout::*;
+
+/// A text has at most so many lines, so that its file is within the bytes that the programs read.
+pub const MOST_TEXT_LINES: usize = 99;
+
+const HEADER_WORDS: usize = MARKET_OFFSET / 4;
+
+#[derive(Clone, Copy, Debug, PartialEq, Eq)]
+pub enum Section {
+    Header,
+    Market,
+    Line,
+}
+
+/// How a key's values are written.
+#[derive(Clone, Copy, Debug, PartialEq, Eq)]
+pub enum Kind {
+    Number,
+    Price,
+    YesNo,
+    Side,
+    Bid,
+}
+
+/// One key of a section.
+#[derive(Clone, Copy, Debug, PartialEq, Eq)]
+pub struct Field {
+    pub name: &'static str,
+    /// 1 to 5, for a key that has one row for each schedule.
+    pub schedule: Option<usize>,
+    /// Word place of the first value: in the file, or for a line in that line.
+    pub place: usize,
+    pub words: usize,
+    pub kind: Kind,
+    pub required: bool,
+}
+
+impl Section {
+    pub const ALL: [Section; 3] = [Section::Header, Section::Market, Section::Line];
+
+    pub fn heading(self) -> &'static str {
+        match self {
+            Section::Header => "[header]",
+            Section::Market => "[market]",
+            Section::Line => "[line]",
+        }
+    }
+
+    /// The section's keys, in the order in which they are shown.
+    pub fn fields(self) -> Vec<Field> {
+        match self {
+            Section::Header => header_fields(),
+            Section::Market => market_fields(),
+            Section::Line => line_fields(),
+        }
+    }
+}
+
+impl Field {
+    /// The key as written, with its schedule.
+    pub fn key(&self) -> String {
+        match self.schedule {
+            Some(schedule) => format!("{} {schedule}", self.name),
+            None => self.name.to_string(),
+        }
+    }
+}
+
+fn single(name: &'static str, place: usize, kind: Kind) -> Field {
+    row(name, place, 1, kind)
+}
+
+fn row(name: &'static str, place: usize, words: usize, kind: Kind) -> Field {
+    Field {
+        name,
+        schedule: None,
+        place,
+        words,
+        kind,
+        required: true,
+    }
+}
+
+/// One row for each schedule; `row` has the place and the words of schedule s, from 0.
+fn rows(name: &'static str, kind: Kind, row: fn(usize) -> (usize, usize)) -> Vec<Field> {
+    let field = |s| {
+        let (place, words) = row(s);
+        Field {
+            name,
+            schedule: Some(s + 1),
+            place,
+            words,
+            kind,
+            required: true,
+        }
+    };
+    (0..SCHEDULES).map(field).collect()
+}
+
+fn header_fields() -> Vec<Field> {
+    const NAMES: [&str; HEADER_WORDS] = ["lines", "market_offset", "lines_offset", "length"];
+    let field = |(place, name)| single(name, place, Kind::Number);
+    NAMES.into_iter().enumerate().map(field).collect()
+}
+
+fn market_fields() -> Vec<Field> {
+    vec![
+        row("price", MARKET_PRICE, SCHEDULES, Kind::Price),
+        row("capped", CAP_MARK, SCHEDULES, Kind::YesNo),
+        single("apc", PRICE_CAP, Kind::Price),
+        single("clawback", CLAWBACK, Kind::YesNo),
+    ]
+}
+
+fn line_fields() -> Vec<Field> {
+    let heading = vec![
+        single("participant", PARTICIPANT, Kind::Number),
+        single("point", POINT, Kind::Number),
+        single("side", SIDE, Kind::Side),
+        single("accredited", ACCREDITATION, Kind::YesNo),
+        single("hedge", HEDGE, Kind::Number),
+    ];
+    let actual = row("actual", actual_place(0), SCHEDULES, Kind::Number);
+    let pricing = |s| (pricing_place(s, s), SCHEDULES - s);
+    let operating = |s| (operating_place(s, 0), SCHEDULES);
+    [
+        heading,
+        rows("bid", Kind::Bid, |s| (count_place(s), BID_WORDS)),
+        counts(),
+        rows("pricing", Kind::Number, pricing),
+        rows("operating", Kind::Number, operating),
+        vec![actual],
+    ]
+    .concat()
+}
+
+/// A bid's count where it isn't that of the bid's steps. These come after the bids, which write the count too.
+fn counts() -> Vec<Field> {
+    let mut fields = rows("count", Kind::Number, |s| (count_place(s), 1));
+    for field in &mut fields {
+        field.required = false;
+    }
+    fields
+}

@@ -1,0 +1,116 @@
+//! Writing: text, CSV for spreadsheets, JSON for programs. Every error of standard output is seen.
+
+use crate::amounts::{plain, MONEY_PLACES, PRICE_PLACES};
+use crate::outcome::{Problem, Result};
+use serde_json::Value;
+use std::io::Write;
+
+/// How answers are written.
+#[derive(Clone, Copy, Debug, PartialEq, Eq)]
+pub enum Format {
+    Text,
+    Csv,
+    Json,
+}
+
+/// In CSV, money and prices are in dollars, or in the day file's units of $0.0000001 and $0.0001 per GJ.
+#[derive(Clone, Copy, Debug, PartialEq, Eq)]
+pub enum Unit {
+    Dollars,
+    Units,
+}
+
+impl Unit {
+    pub fn money(self, value: i64) -> String {
+        match self {
+            Unit::Dollars => plain(value, MONEY_PLACES),
+            Unit::Units => value.to_string(),
+        }
+    }
+
+    pub fn price(self, value: u32) -> String {
+        match self {
+            Unit::Dollars => plain(value.into(), PRICE_PLACES),
+            Unit::Units => value.to_string(),
+        }
+    }
+
+    /// The ending of a column's name.
+    pub fn name(self) -> &'static str {
+        match self {
+            Unit::Dollars => "dollars",
+            Unit::Units => "units",
+        }
+    }
+}
+
+/// A table with a header row.
+pub struct Table<'a> {
+    writer: csv::Writer<&'a mut dyn Write>,
+}
+
+impl<'a> Table<'a> {
+    pub fn new(out: &'a mut dyn Write, columns: &[String]) -> Result<Table<'a>> {
+        let mut table = Table {
+            writer: csv::Writer::from_writer(out),
+        };
+        table.row(columns)?;
+        Ok(table)
+    }
+
+    pub fn row(&mut self, cells: &[String]) -> Result<()> {
+        self.writer.write_record(cells).map_err(of_output)
+    }
+
+    pub fn finish(mut self) -> Result<()> {
+        Ok(self.writer.flush()?)
+    }
+}
+
+fn of_output(error: csv::Error) -> Problem {
+    Problem {
+        last: true,
+        ..Problem::failed(format!("standard output: {error}"))
+    }
+}
+
+/// One object: laid out where it is the only one, in one row where several follow one another.
+pub fn put_json(out: &mut dyn Write, value: &Value, alone: bool) -> Result<()> {
+    let text = match alone {
+        true => format!("{value:#}"),
+        false => value.to_string(),
+    };
+    Ok(writeln!(out, "{text}")?)
+}
+
+/// Names such as `payment_1` .. `payment_5`, with an ending where one is given.
+pub fn numbered(name: &str, count: usize, ending: &str) -> Vec<String> {
+    (1..=count).map(|k| format!("{name}_{k}{ending}")).collect()
+}
+
+/// Columns under one another: the first to the left, the others to the right.
+pub fn aligned(rows: &[Vec<String>]) -> String {
+    let columns = rows.iter().map(Vec::len).max().unwrap_or(0);
+    let width = |column: usize| {
+        rows.iter()
+            .filter_map(|row| row.get(column))
+            .map(|cell| cell.chars().count())
+            .max()
+    };
+    let widths: Vec<usize> = (0..columns)
+        .map(|column| width(column).unwrap_or(0))
+        .collect();
+    let mut text = String::new();
+    for row in rows {
+        for (column, cell) in row.iter().enumerate() {
+            let fill = " ".repeat(widths[column] - cell.chars().count());
+            match column {
+                0 if row.len() == 1 => text.push_str(cell),
+                0 => text.push_str(&format!("{cell}{fill}")),
+                _ => text.push_str(&format!("  {fill}{cell}")),
+            }
+        }
+        text.push('\n');
+    }
+    text
+}

@@ -1,0 +1,606 @@
+//! Refusals in words. The number is always the proved archive's; where the fault lies is this module's own finding, which is not proved: every fault of a file in
+//! the order of document 01's table, so that the first must have the archive's number. `explain` fails where it hasn't.
+
+use crate::amounts::{grouped, price};
+use crate::figures::Totals;
+use crate::input::Input;
+use crate::layout::*;
+use crate::outcome::{Problem, Result};
+use crate::values::counted;
+use mewikofu::Refusal;
+
+/// One fault of a file.
+#[derive(Clone, Debug, Default, PartialEq, Eq)]
+pub struct Fault {
+    pub number: u32,
+    /// From 0.
+    pub line: Option<usize>,
+    /// From 1, as slots and intervals.
+    pub schedule: Option<usize>,
+    pub slot: Option<usize>,
+    pub interval: Option<usize>,
+    pub value: u64,
+    pub limit: Option<u64>,
+    /// Place, value and limit in words.
+    pub words: String,
+}
+
+/// A refused file.
+#[derive(Clone, Debug, PartialEq, Eq)]
+pub struct Explained {
+    pub refusal: Refusal,
+    /// All faults, in the table's order; the first has the refusal's number.
+    pub faults: Vec<Fault>,
+}
+
+impl Explained {
+    /// The number, the table's words for it and the first fault.
+    pub fn first(&self) -> String {
+        let Explained { refusal, faults } = self;
+        format!(
+            "refused {}: {}: {}",
+            refusal.number(),
+            refusal.words(),
+            faults[0].words
+        )
+    }
+
+    /// The number with the table's words, then a row for each fault.
+    pub fn rows(&self) -> Vec<String> {
+        let mut rows = vec![format!(
+            "refused {}: {}",
+            self.refusal.number(),
+            self.refusal.words()
+        )];
+        rows.extend(
+            self.faults
+                .iter()
+                .map(|fault| format!("  {}: {}", fault.number, fault.words)),
+        );
+        rows
+    }
+}
+
+/// The faults of a day that the archive refused.
+pub fn explain_day(input: &Input, refusal: Refusal) -> Result<Explained> {
+    explain(&input.name, refusal, day_faults(&input.bytes, input.more))
+}
+
+/// The faults of a line's bytes that the cutter refused.
+pub fn explain_line(input: &Input, refusal: Refusal) -> Result<Explained> {
+    explain(&input.name, refusal, cut_faults(&input.bytes, input.more))
+}
+
+fn explain(name: &str, refusal: Refusal, faults: Vec<Fault>) -> Result<Explained> {
+    match faults.first() {
+        Some(first) if first.number == refusal.number() => Ok(Explained { refusal, faults }),
+        first => {
+            let found = first.map_or("no fault".to_string(), |fault| {
+                format!("{}: {}", fault.number, fault.words)
+            });
+            Err(Problem::failed(format!(
+                "{name}: refused {}: {}; but the search for its place found {found}. The number is the proved one; the search is wrong",
+                refusal.number(),
+                refusal.words()
+            )))
+        }
+    }
+}
+
+/// Every fault of a day's bytes; `more` where the file goes on after them.
+pub fn day_faults(bytes: &[u8], more: bool) -> Vec<Fault> {
+    let mut faults = Vec::new();
+    let Some(lines) = header_faults(bytes, more, &mut faults) else {
+        return faults;
+    };
+    market_faults(bytes, &mut faults);
+    for k in 0..lines {
+        LineFaults {
+            line: line_bytes(bytes, k),
+            place: Some(k),
+            faults: &mut faults,
+        }
+        .find();
+    }
+    key_faults(bytes, lines, &mut faults);
+    faults
+}
+
+/// Every fault of a line's bytes.
+pub fn cut_faults(bytes: &[u8], more: bool) -> Vec<Fault> {
+    let mut faults = Vec::new();
+    if bytes.len() != LINE_BYTES {
+        faults.push(Fault {
+            number: 18,
+            value: bytes.len() as u64,
+            limit: Some(LINE_BYTES as u64),
+            words: format!("the file has {}; a line has 660", size(bytes, more)),
+            ..Fault::default()
+        });
+        return faults;
+    }
+    LineFaults {
+        line: bytes,
+        place: None,
+        faults: &mut faults,
+    }
+    .find();
+    faults
+}
+
+fn size(bytes: &[u8], more: bool) -> String {
+    match more {
+        true => format!("more than {} bytes", number(bytes.len() as u64)),
+        false => format!("{} bytes", number(bytes.len() as u64)),
+    }
+}
+
+fn number(value: impl Into<u64>) -> String {
+    grouped(value.into())
+}
+
+/// Refusals 1 to 3. Answers how many lines can be looked at, none where the header has no line count.
+fn header_faults(bytes: &[u8], more: bool, faults: &mut Vec<Fault>) -> Option<usize> {
+    let mut found = |number, value: u64, limit: u64, words| {
+        faults.push(Fault {
+            number,
+            value,
+            limit: Some(limit),
+            words,
+            ..Fault::default()
+        });
+    };
+    if bytes.len() < LINES_OFFSET {
+        found(
+            1,
+            bytes.len() as u64,
+            64,
+            format!(
+                "the file has {}; header and market table take 64",
+                size(bytes, more)
+            ),
+        );
+        return None;
+    }
+    let n = word(bytes, 0);
+    if !(1..=MOST_LINES as u32).contains(&n) {
+        found(
+            2,
+            n.into(),
+            MOST_LINES as u64,
+            format!(
+                "the header's line count is {}; it must be 1 to 64",
+                number(n)
+            ),
+        );
+        return None;
+    }
+    let lines = n as usize;
+    let counted = counted(lines, "line");
+    let names = [
+        "line count",
+        "offset of the market table",
+        "offset of the lines",
+        "file length",
+    ];
+    for (place, due) in header(lines).into_iter().enumerate() {
+        let value = word(bytes, place);
+        if value != due {
+            let (name, value_words, due_words) = (names[place], number(value), number(due));
+            found(
+                3,
+                value.into(),
+                due.into(),
+                format!(
+                    "the header's {name} is {value_words}; with {counted} it must be {due_words}"
+                ),
+            );
+        }
+    }
+    let length = day_length(lines);
+    if bytes.len() != length {
+        let (size, due) = (size(bytes, more), number(length as u64));
+        found(
+            3,
+            bytes.len() as u64,
+            length as u64,
+            format!("the file has {size}; with {counted} it must have {due}"),
+        );
+    }
+    Some(lines.min((bytes.len() - LINES_OFFSET) / LINE_BYTES))
+}
+
+/// Refusals 4 and 5.
+fn market_faults(bytes: &[u8], faults: &mut Vec<Fault>) {
+    let mut above =
+        |refusal, place, limit: u32, schedule: Option<usize>, words: &dyn Fn(u32) -> String| {
+            let value = word(bytes, place);
+            if value > limit {
+                let (value, limit, words) =
+                    (u64::from(value), Some(u64::from(limit)), words(value));
+                faults.push(Fault {
+                    number: refusal,
+                    schedule,
+                    value,
+                    limit,
+                    words,
+                    ..Fault::default()
+                });
+            }
+        };
+    for s in 0..SCHEDULES {
+        above(4, MARKET_PRICE + s, PRICE_LIMIT, Some(s + 1), &|value| {
+            format!(
+                "market price of schedule {}: {}; {}",
+                s + 1,
+                price_words(value),
+                price_limit_words()
+            )
+        });
+    }
+    above(4, PRICE_CAP, PRICE_LIMIT, None, &|value| {
+        format!(
+            "administered price cap: {}; {}",
+            price_words(value),
+            price_limit_words()
+        )
+    });
+    for s in 0..SCHEDULES {
+        above(5, CAP_MARK + s, 1, Some(s + 1), &|value| {
+            format!(
+                "cap mark of schedule {}: {}; it must be 0 or 1",
+                s + 1,
+                number(value)
+            )
+        });
+    }
+    above(5, CLAWBACK, 1, None, &|value| {
+        format!("clawback switch: {}; it must be 0 or 1", number(value))
+    });
+}
+
+/// A price in units and dollars.
+fn price_words(value: u32) -> String {
+    format!("{} ({} per GJ)", number(value), price(value))
+}
+
+fn price_limit_words() -> String {
+    format!("the most is {}", price_words(PRICE_LIMIT))
+}
+
+fn quantity_limit_words() -> String {
+    format!("the most is {} MJ", number(QUANTITY_LIMIT))
+}
+
+/// Refusals 6 to 13 of one line.
+struct LineFaults<'a> {
+    line: &'a [u8],
+    /// From 0; none for a line without a day.
+    place: Option<usize>,
+    faults: &'a mut Vec<Fault>,
+}
+
+impl LineFaults<'_> {
+    fn word(&self, place: usize) -> u32 {
+        word(self.line, place)
+    }
+
+    fn count(&self, bid: usize) -> usize {
+        self.word(count_place(bid)) as usize
+    }
+
+    /// The line with its key.
+    fn name(&self) -> String {
+        let [participant, point, side] = [PARTICIPANT, POINT, SIDE].map(|place| self.word(place));
+        let key = format!(
+            "participant {participant}, point {point}, {}",
+            side_name(side)
+        );
+        match self.place {
+            Some(k) => format!("line {k} ({key})"),
+            None => format!("the line ({key})"),
+        }
+    }
+
+    fn put(&mut self, fault: Fault, words: String) {
+        let words = format!("{}, {words}", self.name());
+        self.faults.push(Fault {
+            line: self.place,
+            words,
+            ..fault
+        });
+    }
+
+    fn find(mut self) {
+        for (place, name) in [(SIDE, "side"), (ACCREDITATION, "accreditation")] {
+            let value = self.word(place);
+            if value > 1 {
+                let fault = Fault {
+                    number: 6,
+                    value: value.into(),
+                    limit: Some(1),
+                    ..Fault::default()
+                };
+                self.put(
+                    fault,
+                    format!("{name}: {}; it must be 0 or 1", number(value)),
+                );
+            }
+        }
+        let before = self.faults.len();
+        (0..SCHEDULES).for_each(|bid| self.find_in_bid(bid));
+        // Without the bids' counts and breaks the line has no greatest break.
+        if self.faults[before..]
+            .iter()
+            .all(|fault| !matches!(fault.number, 7 | 8))
+        {
+            let most = self.greatest_break();
+            self.find_hedge(most);
+            self.find_totals(most);
+        }
+        self.find_actuals();
+    }
+
+    /// M. Breaks rise, so a bid's greatest is its last.
+    fn greatest_break(&self) -> u32 {
+        let last = |bid| self.word(break_place(bid, self.count(bid) - 1));
+        (0..SCHEDULES).map(last).fold(0, u32::max)
+    }
+
+    /// Refusals 7 to 10.
+    fn find_in_bid(&mut self, bid: usize) {
+        let count = self.count(bid);
+        let schedule = Some(bid + 1);
+        if !(1..=BID_SLOTS).contains(&count) {
+            let fault = Fault {
+                number: 7,
+                schedule,
+                value: count as u64,
+                limit: Some(BID_SLOTS as u64),
+                ..Fault::default()
+            };
+            return self.put(
+                fault,
+                format!(
+                    "bid of schedule {}: its count is {}; it must be 1 to 11",
+                    bid + 1,
+                    number(count as u64)
+                ),
+            );
+        }
+        let mut last = 0;
+        for slot in 0..count {
+            let value = self.word(break_place(bid, slot));
+            self.find_break(bid, slot, value, last);
+            last = value;
+        }
+        for slot in 0..count {
+            let before = (slot > 0).then(|| self.word(price_place(bid, slot - 1)));
+            self.find_price(bid, slot, before);
+        }
+        for slot in count..BID_SLOTS {
+            for (place, name) in [
+                (break_place(bid, slot), "break"),
+                (price_place(bid, slot), "price"),
+            ] {
+                let value = self.word(place);
+                if value != 0 {
+                    let fault = Fault {
+                        number: 10,
+                        schedule,
+                        slot: Some(slot + 1),
+                        value: value.into(),
+                        limit: Some(0),
+                        ..Fault::default()
+                    };
+                    let at = slot_words(bid, slot);
+                    self.put(
+                        fault,
+                        format!(
+                            "{at}: {name} {}; the bid's count is {count}, so it must be 0",
+                            number(value)
+                        ),
+                    );
+                }
+            }
+        }
+    }
+
+    fn find_break(&mut self, bid: usize, slot: usize, value: u32, last: u32) {
+        let at = slot_words(bid, slot);
+        let fault = Fault {
+            number: 8,
+            schedule: Some(bid + 1),
+            slot: Some(slot + 1),
+            value: value.into(),
+            ..Fault::default()
+        };
+        if value <= last {
+            let limit = match slot {
+                0 => "it must be above 0".to_string(),
+                _ => format!("it must be above the one before, {} MJ", number(last)),
+            };
+            self.put(
+                Fault {
+                    limit: Some(last.into()),
+                    ..fault.clone()
+                },
+                format!("{at}: break {} MJ; {limit}", number(value)),
+            );
+        }
+        if value > QUANTITY_LIMIT {
+            let words = format!(
+                "{at}: break {} MJ; {}",
+                number(value),
+                quantity_limit_words()
+            );
+            self.put(
+                Fault {
+                    limit: Some(QUANTITY_LIMIT.into()),
+                    ..fault
+                },
+                words,
+            );
+        }
+    }
+
+    fn find_price(&mut self, bid: usize, slot: usize, before: Option<u32>) {
+        let value = self.word(price_place(bid, slot));
+        let at = slot_words(bid, slot);
+        let fault = Fault {
+            number: 9,
+            schedule: Some(bid + 1),
+            slot: Some(slot + 1),
+            value: value.into(),
+            ..Fault::default()
+        };
+        let limit = match (before, self.word(SIDE)) {
+            (Some(before), 0) if value < before => {
+                Some((before, "on an injection it must not be below"))
+            }
+            (Some(before), 1) if value > before => {
+                Some((before, "on a withdrawal it must not be above"))
+            }
+            _ => None,
+        };
+        if let Some((before, rule)) = limit {
+            let words = format!(
+                "{at}: price {}; {rule} the one before, {}",
+                price_words(value),
+                price_words(before)
+            );
+            self.put(
+                Fault {
+                    limit: Some(before.into()),
+                    ..fault.clone()
+                },
+                words,
+            );
+        }
+        if value > PRICE_LIMIT {
+            let words = format!(
+                "{at}: price {}; {}",
+                price_words(value),
+                price_limit_words()
+            );
+            self.put(
+                Fault {
+                    limit: Some(PRICE_LIMIT.into()),
+                    ..fault
+                },
+                words,
+            );
+        }
+    }
+
+    /// Refusal 11.
+    fn find_hedge(&mut self, most: u32) {
+        let hedge = self.word(HEDGE);
+        let (limit, words) = match self.word(SIDE) {
+            0 => (
+                most,
+                format!(
+                    "the most is the greatest break of its bids, {} MJ",
+                    number(most)
+                ),
+            ),
+            1 => (0, "on a withdrawal it must be 0".to_string()),
+            _ => return,
+        };
+        if hedge > limit {
+            let fault = Fault {
+                number: 11,
+                value: hedge.into(),
+                limit: Some(limit.into()),
+                ..Fault::default()
+            };
+            self.put(fault, format!("hedge: {} MJ; {words}", number(hedge)));
+        }
+    }
+
+    /// Refusal 12.
+    fn find_totals(&mut self, most: u32) {
+        let Totals {
+            pricing, operating, ..
+        } = Totals::new(self.line);
+        for (name, totals) in [("pricing", pricing), ("operating", operating)] {
+            for (s, total) in totals.into_iter().enumerate() {
+                if total > u64::from(most) {
+                    let fault = Fault {
+                        number: 12,
+                        schedule: Some(s + 1),
+                        value: total,
+                        limit: Some(most.into()),
+                        ..Fault::default()
+                    };
+                    let limit = format!(
+                        "the most is the greatest break of its bids, {} MJ",
+                        number(most)
+                    );
+                    self.put(
+                        fault,
+                        format!(
+                            "{name} total of schedule {}: {} MJ; {limit}",
+                            s + 1,
+                            number(total)
+                        ),
+                    );
+                }
+            }
+        }
+    }
+
+    /// Refusal 13.
+    fn find_actuals(&mut self) {
+        for i in 0..SCHEDULES {
+            let value = self.word(actual_place(i));
+            if value > QUANTITY_LIMIT {
+                let limit = Some(QUANTITY_LIMIT.into());
+                let fault = Fault {
+                    number: 13,
+                    interval: Some(i + 1),
+                    value: value.into(),
+                    limit,
+                    ..Fault::default()
+                };
+                self.put(
+                    fault,
+                    format!(
+                        "actual of interval {}: {} MJ; {}",
+                        i + 1,
+                        number(value),
+                        quantity_limit_words()
+                    ),
+                );
+            }
+        }
+    }
+}
+
+fn slot_words(bid: usize, slot: usize) -> String {
+    format!("bid of schedule {}, slot {}", bid + 1, slot + 1)
+}
+
+/// Refusal 14.
+fn key_faults(bytes: &[u8], lines: usize, faults: &mut Vec<Fault>) {
+    let keys: Vec<[u32; 3]> = (0..lines)
+        .map(|k| [PARTICIPANT, POINT, SIDE].map(|place| word(line_bytes(bytes, k), place)))
+        .collect();
+    for (k, key) in keys.iter().enumerate() {
+        if let Some(earlier) = keys[..k].iter().position(|other| other == key) {
+            let [participant, point, side] = *key;
+            let key = format!(
+                "participant {participant}, point {point} and side {}",
+                side_name(side)
+            );
+            let words = format!("line {k} has {key}, as line {earlier} has");
+            faults.push(Fault {
+                number: 14,
+                line: Some(k),
+                value: earlier as u64,
+                words,
+                ..Fault::default()
+            });
+        }
+    }
+}

@@ -1,0 +1,200 @@
+//! `steps`: every figure of every step, as the proved program prints it, as a table or as JSON.
+
+use crate::arguments::Options;
+use crate::figures::{Figures, Line};
+use crate::input::read_day;
+use crate::layout::SCHEDULES;
+use crate::outcome::{each, Result, Status};
+use crate::output::{numbered, put_json, Format, Table, Unit};
+use crate::settle::{put, side_word};
+use mewikofu::{match_place, BookLine, View, MATCHES};
+use serde_json::{json, Value};
+use std::io::Write;
+
+pub fn run(options: &Options, out: &mut dyn Write) -> Result<Status> {
+    match options.format {
+        Format::Csv => {
+            let mut table = Table::new(out, &columns(options.unit))?;
+            let status = each(&options.files, |file| {
+                let (input, figures) = crate::figures::read(file)?;
+                put_table(&mut table, &input.name, &figures, options.unit)
+            })?;
+            table.finish()?;
+            Ok(status)
+        }
+        Format::Json => each(&options.files, |file| {
+            let (input, figures) = crate::figures::read(file)?;
+            put_json(
+                out,
+                &steps_json(&input.name, &figures),
+                options.files.len() == 1,
+            )
+        }),
+        Format::Text => each(&options.files, |file| {
+            let input = read_day(file)?;
+            if options.files.len() > 1 {
+                writeln!(out, "== {} ==", input.name)?;
+            }
+            match Figures::new(&input.bytes) {
+                Ok(figures) => Ok(out.write_all(text(&figures).as_bytes())?),
+                Err(refusal) => {
+                    writeln!(out, "refused {}", refusal.number())?;
+                    Err(crate::figures::refused(&input, refusal))
+                }
+            }
+        }),
+    }
+}
+
+/// What the program `steps` prints.
+pub fn text(figures: &Figures) -> String {
+    let mut text = String::new();
+    for (k, line) in figures.lines.iter().enumerate() {
+        let BookLine {
+            participant,
+            point,
+            side,
+            steps,
+            ..
+        } = line.entry;
+        text.push_str(&format!(
+            "line {k} {participant} {point} {} {steps}\n",
+            side_word(side)
+        ));
+        for (j, step) in line.steps.iter().enumerate() {
+            put(
+                &mut text,
+                &format!("step {j}"),
+                &[step.end, step.width, step.actual],
+            );
+            for s in 0..SCHEDULES {
+                let row = [
+                    quantities(step, s).map(i64::from).to_vec(),
+                    payments(step, s).to_vec(),
+                ]
+                .concat();
+                put(&mut text, &(s + 1).to_string(), &row);
+            }
+            put(&mut text, "matches", &step.matches);
+        }
+    }
+    text
+}
+
+/// Price, flag, O, E, AGINO, MSIQ and C.
+fn quantities(step: &View, s: usize) -> [u32; 7] {
+    let rows = [
+        &step.price,
+        &step.flag,
+        &step.operating,
+        &step.pricing,
+        &step.agino,
+        &step.msiq,
+        &step.constrained,
+    ];
+    rows.map(|row| row[s])
+}
+
+/// Initial, revised, modified and final.
+fn payments(step: &View, s: usize) -> [i64; 4] {
+    [&step.initial, &step.revised, &step.modified, &step.finals].map(|row| row[s])
+}
+
+/// One row for each line, step and schedule.
+fn columns(unit: Unit) -> Vec<String> {
+    let unit = unit.name();
+    let mut columns = [
+        "file",
+        "line",
+        "participant",
+        "point",
+        "side",
+        "step",
+        "end",
+        "width",
+        "actual",
+        "schedule",
+    ]
+    .map(String::from)
+    .to_vec();
+    columns.push(format!("price_{unit}"));
+    columns.extend(
+        [
+            "flag",
+            "operating",
+            "pricing",
+            "agino",
+            "msiq",
+            "constrained",
+        ]
+        .map(String::from),
+    );
+    columns.extend(numbered("match", SCHEDULES - 1, ""));
+    columns
+        .extend(["initial", "revised", "modified", "final"].map(|name| format!("{name}_{unit}")));
+    columns
+}
+
+fn put_table(table: &mut Table, name: &str, figures: &Figures, unit: Unit) -> Result<()> {
+    for (k, Line { entry, steps, .. }) in figures.lines.iter().enumerate() {
+        let key = [
+            entry.participant.to_string(),
+            entry.point.to_string(),
+            side_word(entry.side).to_string(),
+        ];
+        for (j, step) in steps.iter().enumerate() {
+            for s in 0..SCHEDULES {
+                let mut row = vec![name.to_string(), k.to_string()];
+                row.extend(key.iter().cloned());
+                row.extend(
+                    [j as u32, step.end, step.width, step.actual, s as u32 + 1]
+                        .map(|value| value.to_string()),
+                );
+                let [price, rest @ ..] = quantities(step, s);
+                row.push(unit.price(price));
+                row.extend(rest.map(|value| value.to_string()));
+                // m(r, s) for r below s; the places of later schedules are empty.
+                row.extend((0..SCHEDULES - 1).map(|r| {
+                    if r < s {
+                        step.matches[match_place(r, s)].to_string()
+                    } else {
+                        String::new()
+                    }
+                }));
+                row.extend(payments(step, s).map(|value| unit.money(value)));
+                table.row(&row)?;
+            }
+        }
+    }
+    Ok(())
+}
+
+/// Quantities in MJ, prices in $0.0001 per GJ, money in $0.0000001.
+fn steps_json(name: &str, figures: &Figures) -> Value {
+    let lines: Vec<Value> = figures.lines.iter().map(line_json).collect();
+    json!({ "file": name, "price_unit": "$0.0001/GJ", "money_unit": "$0.0000001", "lines": lines })
+}
+
+fn line_json(line: &Line) -> Value {
+    let steps: Vec<Value> = line.steps.iter().map(step_json).collect();
+    json!({
+        "participant": line.entry.participant,
+        "point": line.entry.point,
+        "side": side_word(line.entry.side),
+        "steps": steps,
+    })
+}
+
+pub fn step_json(step: &View) -> Value {
+    let pairs = (1..SCHEDULES).flat_map(|s| (0..s).map(move |r| (r, s)));
+    let matches = pairs.filter(|&(r, s)| step.matches[match_place(r, s)] > 0);
+    let matches: Vec<Value> =
+        matches.map(|(r, s)| json!({ "rise": r + 1, "fall": s + 1, "quantity": step.matches[match_place(r, s)] })).collect();
+    debug_assert!(matches.len() <= MATCHES);
+    json!({
+        "end": step.end, "width": step.width, "actual": step.actual,
+        "price": step.price, "flag": step.flag, "operating": step.operating, "pricing": step.pricing,
+        "agino": step.agino, "msiq": step.msiq, "constrained": step.constrained, "matches": matches,
+        "initial": step.initial, "revised": step.revised, "modified": step.modified, "final": step.finals,
+    })
+}

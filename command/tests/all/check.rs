@@ -1,0 +1,211 @@
+//! Refusals in words.
+
+use crate::{example_text, run, stored};
+use mewikofu_command::refusals::{cut_faults, day_faults};
+use reference::generate::{
+    damaged_day, damaged_day_and_number, damaged_line, edge_days, valid_day,
+};
+use reference::layout::put_word;
+use std::collections::{BTreeMap, BTreeSet};
+
+/// What `check` says of a refused day.
+fn refused(arguments: &[&str], day: &[u8]) -> String {
+    let run = run(arguments, day);
+    assert_eq!((run.status, run.message.as_str()), (1, ""));
+    let text = String::from_utf8(run.out).unwrap();
+    text.strip_prefix("standard input: ").unwrap().to_string()
+}
+
+#[test]
+fn accepted() {
+    let text = run(&["make", "--check"], example_text().as_bytes()).text();
+    assert_eq!(text, "standard input: accepted\n");
+    for day in ["k10", "both-sides", "withdrawals"] {
+        let day = stored(&format!("examples/{day}.day"));
+        assert_eq!(run(&["check"], &day).text(), "standard input: accepted\n");
+    }
+}
+
+/// Damaged days whose number is known beforehand are refused in the words of docs/REFUSALS.md.
+#[test]
+fn each_number() {
+    let table = String::from_utf8(stored("docs/REFUSALS.md")).unwrap();
+    let days: BTreeMap<u32, Vec<u8>> = (0..1_000)
+        .map(damaged_day_and_number)
+        .filter_map(|(day, number)| Some((number.filter(|&n| n > 0)?, day)))
+        .collect();
+    assert!((1..=14).all(|number| days.contains_key(&number)));
+    for (number, day) in days {
+        let start = format!("| {number} | ");
+        let row = table.lines().find_map(|line| line.strip_prefix(&start));
+        let cells: Vec<&str> = row.expect("a row of the number").split(" | ").collect();
+        let words = cells[3].trim_end_matches(" |");
+        let expected = format!("refused {number}: {words}: ");
+        let text = refused(&["check"], &day);
+        assert!(text.starts_with(&expected), "{text}");
+        if (6..=13).contains(&number) {
+            assert!(text[expected.len()..].starts_with("line "), "{text}");
+        }
+    }
+}
+
+/// The first fault found has the proved number, and an accepted day has no fault.
+#[test]
+fn first_faults_have_the_proved_number() {
+    let mut numbers = BTreeSet::new();
+    let days = (0..6_000)
+        .map(damaged_day)
+        .chain((0..200).map(valid_day))
+        .chain(edge_days());
+    for day in days {
+        let number = mewikofu::settle(&day).map_or_else(|refusal| refusal.number(), |_| 0);
+        let found = day_faults(&day, false)
+            .first()
+            .map_or(0, |fault| fault.number);
+        assert_eq!(found, number);
+        numbers.insert(number);
+    }
+    assert!(numbers.into_iter().eq(0..=14));
+    for line in (0..2_000).map(damaged_line) {
+        let number = mewikofu::cut(&line).map_or_else(|refusal| refusal.number(), |_| 0);
+        let found = cut_faults(&line, false)
+            .first()
+            .map_or(0, |fault| fault.number);
+        assert_eq!(found, number);
+    }
+}
+
+/// K10's day with one word put, and what is said of it. The line begins at word 16, its bids at word 21 with 23 words each.
+#[test]
+fn places_values_and_limits() {
+    let line = "line 0 (participant 7, point 3, INJ), ";
+    let cases: [(usize, u32, &str); 21] = [
+        (0, 65, "the header's line count is 65; it must be 1 to 64"),
+        (1, 20, "the header's offset of the market table is 20; with 1 line it must be 16"),
+        (3, 725, "the header's file length is 725; with 1 line it must be 724"),
+        (5, 10_000_001, "market price of schedule 2: 10,000,001 ($1,000.0001 per GJ); the most is 10,000,000 ($1,000.0000 per GJ)"),
+        (14, 10_000_001, "administered price cap: 10,000,001 ($1,000.0001 per GJ); the most is 10,000,000 ($1,000.0000 per GJ)"),
+        (13, 2, "cap mark of schedule 5: 2; it must be 0 or 1"),
+        (15, 3, "clawback switch: 3; it must be 0 or 1"),
+        (19, 2, "*accreditation: 2; it must be 0 or 1"),
+        (21, 12, "*bid of schedule 1: its count is 12; it must be 1 to 11"),
+        (44, 0, "*bid of schedule 2: its count is 0; it must be 1 to 11"),
+        (22, 0, "*bid of schedule 1, slot 1: break 0 MJ; it must be above 0"),
+        (46, 1000, "*bid of schedule 2, slot 2: break 1,000 MJ; it must be above the one before, 1,000 MJ"),
+        (23, 200_000_001, "*bid of schedule 1, slot 2: break 200,000,001 MJ; the most is 200,000,000 MJ"),
+        (34, 19_999, "*bid of schedule 1, slot 2: price 19,999 ($1.9999 per GJ); on an injection it must not be below the one before, 20,000 ($2.0000 per GJ)"),
+        (24, 5000, "*bid of schedule 1, slot 3: break 5,000; the bid's count is 2, so it must be 0"),
+        (43, 1, "*bid of schedule 1, slot 11: price 1; the bid's count is 2, so it must be 0"),
+        (20, 3001, "*hedge: 3,001 MJ; the most is the greatest break of its bids, 3,000 MJ"),
+        (136, 3001, "*pricing total of schedule 1: 3,001 MJ; the most is the greatest break of its bids, 3,000 MJ"),
+        (151, 3001, "*operating total of schedule 1: 3,001 MJ; the most is the greatest break of its bids, 3,000 MJ"),
+        (155, u32::MAX, "*operating total of schedule 1: 4,294,968,295 MJ; the most is the greatest break of its bids, 3,000 MJ"),
+        (180, 200_000_001, "*actual of interval 5: 200,000,001 MJ; the most is 200,000,000 MJ"),
+    ];
+    for (place, value, words) in cases {
+        let mut day = stored("examples/k10.day");
+        put_word(&mut day, place, value);
+        let words = match words.strip_prefix('*') {
+            Some(words) => format!("{line}{words}"),
+            None => words.to_string(),
+        };
+        let text = refused(&["check"], &day);
+        assert!(
+            text.ends_with(&format!(": {words}\n")),
+            "{text} for {words}"
+        );
+    }
+}
+
+/// Every fault of a file, each on a row with its number.
+#[test]
+fn all_faults() {
+    let mut day = stored("examples/k10.day");
+    for (place, value) in [(5, 10_000_001), (15, 2), (16 + 2, 1), (180, 200_000_001)] {
+        put_word(&mut day, place, value);
+    }
+    let text = refused(&["check", "--all"], &day);
+    let rows: Vec<&str> = text.lines().collect();
+    assert!(rows[0].starts_with("refused 4: a market price"), "{text}");
+    let numbers: Vec<&str> = rows[1..]
+        .iter()
+        .map(|row| row.trim_start().split(':').next().unwrap())
+        .collect();
+    assert_eq!(numbers, ["4", "5", "9", "9", "9", "9", "9", "13"], "{text}");
+    let json = run(&["check", "--all", "--json"], &day).out;
+    let json: serde_json::Value = serde_json::from_slice(&json).unwrap();
+    assert_eq!(json["refused"], 4);
+    assert_eq!(json["faults"].as_array().unwrap().len(), 8);
+    assert_eq!(json["faults"][2]["schedule"], 1);
+    assert_eq!(json["faults"][2]["slot"], 2);
+    assert_eq!(
+        (&json["faults"][2]["value"], &json["faults"][2]["limit"]),
+        (&50_000.into(), &20_000.into())
+    );
+    assert_eq!(json["faults"][7]["interval"], 5);
+}
+
+/// What is made of a text is checked, not the text; the same line twice is named.
+#[test]
+fn made_days() {
+    let text = example_text();
+    let (_, line) = text.split_at(text.find("[line]").unwrap());
+    let other = line
+        .replace("= 7", "= 8")
+        .replace("hedge       = 0", "hedge = 3001");
+    let said = refused(&["make", "--check"], format!("{text}\n{other}").as_bytes());
+    assert!(
+        said.contains(": line 1 (participant 8, point 3, INJ), hedge: 3,001 MJ; "),
+        "{said}"
+    );
+    let said = refused(&["make", "--check"], format!("{text}\n{line}").as_bytes());
+    assert!(
+        said.ends_with(": line 1 has participant 7, point 3 and side INJ, as line 0 has\n"),
+        "{said}"
+    );
+}
+
+/// A file longer than is read gets the number that its first bytes get.
+#[test]
+fn longer_files() {
+    let k10 = stored("examples/k10.day");
+    let long = [&k10[..], &vec![0; 200_000]].concat();
+    let text = refused(&["check"], &long);
+    assert!(text.starts_with("refused 3: "), "{text}");
+    assert!(
+        text.ends_with(": the file has more than 65,536 bytes; with 1 line it must have 724\n"),
+        "{text}"
+    );
+}
+
+/// Other commands say the same of a refused day.
+#[test]
+fn other_commands() {
+    let day = stored("examples/refused.day");
+    let words = "refused 9: a bid's price is above 10,000,000 price units, or falls (withdrawal: rises): line 1 (participant 1000000, point 6, INJ), ";
+    for command in ["draw", "explain"] {
+        let message = run(&[command], &day).failure();
+        assert!(message.starts_with(words), "{message}");
+    }
+    for command in ["settle", "steps"] {
+        let run = run(&[command], &day);
+        assert_eq!((run.status, run.out.as_slice()), (1, &b"refused 9\n"[..]));
+        assert!(run.message.contains(words), "{}", run.message);
+    }
+    for command in ["draw", "explain"] {
+        let message = run(&[command, "--line", "1"], &stored("examples/k10.day")).failure();
+        assert_eq!(
+            message,
+            "refused 16: the day has no line 1: it has 1 line, counted from 0\n"
+        );
+    }
+    let message = run(
+        &["explain", "--line", "0", "--step", "2"],
+        &stored("examples/k10.day"),
+    )
+    .failure();
+    assert_eq!(
+        message,
+        "refused 17: line 0 has no step 2: it has 2 steps, counted from 0\n"
+    );
+}

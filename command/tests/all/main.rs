@@ -1,0 +1,85 @@
+//! Tests of the command. Expected figures are document 01's and the reference implementation's.
+
+mod book;
+mod check;
+mod draw;
+mod explain;
+mod make;
+mod many;
+mod readme;
+mod show;
+mod status;
+mod svg;
+mod tables;
+mod texts;
+
+use std::io::Write;
+use std::path::Path;
+use std::process::{Command, Stdio};
+
+/// What a run of the program gives.
+struct Run {
+    status: i32,
+    out: Vec<u8>,
+    message: String,
+}
+
+impl Run {
+    /// Standard output of a run that went well.
+    fn output(self) -> Vec<u8> {
+        assert_eq!((self.status, self.message.as_str()), (0, ""));
+        self.out
+    }
+
+    fn text(self) -> String {
+        String::from_utf8(self.output()).unwrap()
+    }
+
+    /// The message of a run that refused its input with status 1 and wrote nothing.
+    fn failure(self) -> String {
+        assert_eq!(self.status, 1, "{}", self.message);
+        assert!(self.out.is_empty());
+        let message = self.message.strip_prefix("mewikofu: standard input: ");
+        message.expect("the file's name comes first").to_string()
+    }
+}
+
+/// Runs the program on its standard input.
+fn run(arguments: &[&str], input: &[u8]) -> Run {
+    run_with(&[arguments, &["-"]].concat(), input)
+}
+
+fn program() -> Command {
+    Command::new(env!("CARGO_BIN_EXE_mewikofu"))
+}
+
+fn run_with(arguments: &[&str], input: &[u8]) -> Run {
+    let mut child = program()
+        .args(arguments)
+        .stdin(Stdio::piped())
+        .stdout(Stdio::piped())
+        .stderr(Stdio::piped())
+        .spawn()
+        .unwrap();
+    let mut stdin = child.stdin.take().unwrap();
+    let input = input.to_vec();
+    // A program that doesn't read its input closes the pipe.
+    let writer = std::thread::spawn(move || drop(stdin.write_all(&input)));
+    let output = child.wait_with_output().unwrap();
+    writer.join().unwrap();
+    Run {
+        status: output.status.code().unwrap(),
+        out: output.stdout,
+        message: String::from_utf8(output.stderr).unwrap(),
+    }
+}
+
+/// A file of the repository.
+fn stored(path: &str) -> Vec<u8> {
+    let root = Path::new(env!("CARGO_MANIFEST_DIR")).join("..");
+    std::fs::read(root.join(path)).unwrap()
+}
+
+fn example_text() -> String {
+    String::from_utf8(stored("command/example.day.txt")).unwrap()
+}

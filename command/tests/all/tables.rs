@@ -1,0 +1,325 @@
+//! CSV and JSON, there and back.
+
+use crate::{run, stored};
+use reference::generate::{damaged_day, valid_day};
+use reference::layout::{book_length, signed, word, MOST_LINES};
+use reference::settle::settle;
+use reference::view::view;
+use serde_json::Value;
+
+fn rows(table: &[u8]) -> (Vec<String>, Vec<csv::StringRecord>) {
+    let mut reader = csv::Reader::from_reader(table);
+    let names = reader.headers().unwrap().iter().map(String::from).collect();
+    (names, reader.records().map(Result::unwrap).collect())
+}
+
+/// A cell by its column's name.
+fn cell<'a>(names: &[String], row: &'a csv::StringRecord, name: &str) -> &'a str {
+    let place = names.iter().position(|other| other == name);
+    &row[place.unwrap_or_else(|| panic!("no column {name}"))]
+}
+
+fn json(text: &[u8]) -> Value {
+    serde_json::from_slice(text).unwrap()
+}
+
+#[test]
+fn days_there_and_back() {
+    for seed in 0..60 {
+        let day = valid_day(seed);
+        for unit in [&[][..], &["--units"]] {
+            let table = run(&[&["show", "--csv"], unit].concat(), &day).output();
+            assert!(run(&["make", "--csv"], &table).output() == day, "{seed}");
+        }
+        let text = run(&["show", "--json"], &day).output();
+        assert!(run(&["make", "--json"], &text).output() == day, "{seed}");
+    }
+}
+
+/// A refused day is either said so that the same bytes are made of it, or not said.
+#[test]
+fn refused_days() {
+    let mut said = 0;
+    for seed in 0..60 {
+        let day = damaged_day(seed);
+        for format in ["--csv", "--json"] {
+            let shown = run(&["show", format], &day);
+            if shown.status == 0 {
+                assert!(run(&["make", format], &shown.out).out == day, "{seed}");
+                said += 1;
+            } else {
+                assert_eq!(shown.status, 1);
+                assert!(
+                    shown
+                        .message
+                        .contains("only an accepted day can be said so"),
+                    "{}",
+                    shown.message
+                );
+            }
+        }
+    }
+    assert!(said > 20);
+}
+
+/// The example is K10's day.
+#[test]
+fn example() {
+    let day = run(&["make", "--csv"], &stored("command/example.csv")).output();
+    assert_eq!(day, stored("examples/k10.day"));
+}
+
+#[test]
+fn wrong_tables() {
+    let table = String::from_utf8(stored("command/example.csv")).unwrap();
+    let message = |table: &str| run(&["make", "--csv"], table.as_bytes()).failure();
+    let with = |old: &str, new: &str| {
+        assert!(table.contains(old), "{old}");
+        message(&table.replacen(old, new, 1))
+    };
+    assert_eq!(
+        with("participant", "partisipant"),
+        "the table has no column 'participant'\n"
+    );
+    assert_eq!(with("day,", "date,"), "unknown column 'date'\n");
+    assert_eq!(
+        with("point,", "participant,"),
+        "two columns have the name 'participant'\n"
+    );
+    assert_eq!(
+        with(",INJ,", ",in,"),
+        "row 2, side: 'in' is not INJ, WDR or a number\n"
+    );
+    assert_eq!(with(",3.0000,", ",3.00001,"), "row 2, market_price_1_dollars: $3.00001 has more than four decimals; a price unit is $0.0001\n");
+    assert_eq!(
+        with("1000,2.0000", ",2.0000"),
+        "row 2, bid_1_break_1: a bid's step has a break and a price\n"
+    );
+    assert_eq!(
+        with("1000,2.0000", ","),
+        "row 2, bid_1_break_2: a step stands after an empty one\n"
+    );
+    let (names, row) = table.trim_end().split_once('\n').unwrap();
+    assert_eq!(
+        message(names),
+        "the table has 0 rows below its header; a day has 1 to 64 lines\n"
+    );
+    assert_eq!(message(""), "the table has no header row\n");
+    let other = row.replacen(",7,3,", ",8,3,", 1);
+    let two = format!("{names}\n{row}\n{}", other.replacen("3.0000", "4.0000", 1));
+    assert_eq!(message(&two), "row 3, market_price_1_dollars: '4.0000' isn't the first row's; the market is the same on every row\n");
+    let two = format!("{names}\n{row}\n{}", other.replacen("k10", "k11", 1));
+    assert_eq!(
+        message(&two),
+        "row 3, day: 'k11' isn't 'k10'; a table is of one day\n"
+    );
+    assert_eq!(
+        message(&format!("{names}\n{row},1\n")),
+        "row in line 2: it has 84 cells, and the header has 83\n"
+    );
+    // As spreadsheets write it: a mark before the text, line ends of two bytes, empty rows, trailing zeros gone.
+    let other = format!(
+        "\u{feff}{}\r\n,,\r\n",
+        table.replace(".0000", "").replace('\n', "\r\n").trim_end()
+    );
+    let commas = ",".repeat(names.matches(',').count());
+    let other = other.replace(",,\r\n", &format!("{commas}\r\n"));
+    assert_eq!(
+        run(&["make", "--csv"], other.as_bytes()).output(),
+        stored("examples/k10.day")
+    );
+}
+
+#[test]
+fn wrong_json() {
+    let text =
+        String::from_utf8(run(&["show", "--json"], &stored("examples/k10.day")).output()).unwrap();
+    let value = json(text.as_bytes());
+    let with = |change: &dyn Fn(&mut Value)| {
+        let mut value = value.clone();
+        change(&mut value);
+        run(&["make", "--json"], value.to_string().as_bytes()).failure()
+    };
+    assert_eq!(
+        with(&|day| drop(day["market"].as_object_mut().unwrap().remove("apc"))),
+        "market: has no \"apc\"\n"
+    );
+    assert_eq!(
+        with(&|day| day["lines"][0]["hedges"] = 5.into()),
+        "lines[0]: unknown \"hedges\"\n"
+    );
+    assert_eq!(
+        with(&|day| day["lines"][0]["hedge"] = (1_u64 << 32).into()),
+        "lines[0].hedge: 4294967296 isn't a whole number of 32 bits\n"
+    );
+    assert_eq!(
+        with(&|day| day["lines"][0]["hedge"] = (-1).into()),
+        "lines[0].hedge: -1 isn't a whole number of 32 bits\n"
+    );
+    assert_eq!(
+        with(&|day| day["lines"][0]["side"] = "in".into()),
+        "lines[0].side: 'in' is not INJ, WDR or a number\n"
+    );
+    assert_eq!(
+        with(&|day| day["lines"][0]["pricing"][1] = day["lines"][0]["pricing"][0].clone()),
+        "lines[0].pricing[1]: needs 4 values, not 5\n"
+    );
+    assert_eq!(
+        with(&|day| day["lines"][0]["bids"][2][1]["price"] = 1.5.into()),
+        "lines[0].bids[2][1].price: 1.5 isn't a whole number of 32 bits\n"
+    );
+    assert_eq!(
+        with(&|day| day["lines"] = Value::Array(Vec::new())),
+        "lines: a day has 1 to 64 lines, not 0\n"
+    );
+    assert_eq!(
+        with(&|day| day["price_unit"] = "$/GJ".into()),
+        "price_unit: \"$/GJ\" isn't \"$0.0001/GJ\"\n"
+    );
+    assert_eq!(with(&|day| *day = 5.into()), "the day: not an object\n");
+    assert!(run(&["make", "--json"], &text.as_bytes()[..40])
+        .failure()
+        .contains("EOF while parsing"));
+}
+
+/// A book's table and JSON have the reference's figures.
+#[test]
+fn books() {
+    for seed in 0..40 {
+        let day = valid_day(seed);
+        let mut book = vec![0; book_length(MOST_LINES)];
+        assert_eq!(settle(&day, &mut book), 0);
+        let lines = word(&book, 0) as usize;
+        let (names, rows) = rows(&run(&["settle", "--csv", "--units"], &day).output());
+        assert_eq!(rows.len(), lines + 2);
+        let five = |row: &csv::StringRecord| -> Vec<i64> {
+            (1..=5)
+                .map(|s| {
+                    cell(&names, row, &format!("schedule_{s}_units"))
+                        .parse()
+                        .unwrap()
+                })
+                .collect()
+        };
+        let due = |offset: usize, apart: usize| -> Vec<i64> {
+            (0..5).map(|s| signed(&book, offset + apart * s)).collect()
+        };
+        for (k, row) in rows[..lines].iter().enumerate() {
+            let at = book_length(k);
+            assert_eq!(five(row), due(at + 16, 8));
+            assert_eq!(
+                (cell(&names, row, "row"), cell(&names, row, "line")),
+                ("line", k.to_string().as_str())
+            );
+            assert_eq!(
+                cell(&names, row, "participant"),
+                word(&book[at..], 0).to_string()
+            );
+            assert_eq!(cell(&names, row, "steps"), word(&book[at..], 3).to_string());
+        }
+        assert_eq!(
+            (five(&rows[lines]), five(&rows[lines + 1])),
+            (due(16, 16), due(24, 16))
+        );
+        let value = json(&run(&["settle", "--json"], &day).output());
+        assert_eq!(value["totals"], serde_json::json!(due(16, 16)));
+        assert_eq!(
+            value["lines"][lines - 1]["payments"],
+            serde_json::json!(due(book_length(lines - 1) + 16, 8))
+        );
+        // The same by way of the book's file.
+        book.truncate(book_length(lines));
+        assert_eq!(
+            run(&["book", "--csv"], &book).output(),
+            run(&["settle", "--csv"], &day).output()
+        );
+        assert_eq!(
+            json(&run(&["book", "--json"], &book).output())["lines"],
+            value["lines"]
+        );
+    }
+}
+
+/// In dollars a unit of money is the seventh decimal and a price unit the fourth.
+#[test]
+fn dollars() {
+    let (names, rows) =
+        rows(&run(&["settle", "--csv"], &stored("examples/both-sides.day")).output());
+    assert_eq!(cell(&names, &rows[6], "schedule_2_dollars"), "-0.0007680");
+    assert_eq!(cell(&names, &rows[7], "schedule_4_dollars"), "0.0068559");
+}
+
+/// A row for each line, step and schedule, with the reference's figures.
+#[test]
+fn steps() {
+    for seed in 0..12 {
+        let day = reference::generate::small_day(seed);
+        let (names, rows) = rows(&run(&["steps", "--csv", "--units"], &day).output());
+        let value = json(&run(&["steps", "--json"], &day).output());
+        for row in &rows {
+            let number = |name: &str| cell(&names, row, name).parse::<i64>().unwrap();
+            let (k, j, s) = (
+                number("line"),
+                number("step"),
+                number("schedule") as usize - 1,
+            );
+            let step = view(&day, k as u64, j as u64);
+            assert_eq!(step.number, 0);
+            let quantities = [
+                "end",
+                "width",
+                "actual",
+                "price_units",
+                "flag",
+                "operating",
+                "pricing",
+                "agino",
+                "msiq",
+                "constrained",
+            ];
+            let due = [
+                step.upper,
+                step.width,
+                step.actual,
+                step.price[s],
+                step.flag[s],
+                step.operating[s],
+                step.pricing[s],
+                step.agino[s],
+                step.msiq[s],
+                step.constrained_on[s],
+            ];
+            assert_eq!(quantities.map(number), due.map(i64::from));
+            let payments = [
+                "initial_units",
+                "revised_units",
+                "modified_units",
+                "final_units",
+            ];
+            assert_eq!(
+                payments.map(number),
+                [
+                    step.initial[s],
+                    step.revised[s],
+                    step.modified[s],
+                    step.finals[s]
+                ]
+            );
+            for r in 0..s {
+                assert_eq!(
+                    number(&format!("match_{}", r + 1)),
+                    i64::from(step.matches[s * (s - 1) / 2 + r])
+                );
+            }
+            let other = &value["lines"][k as usize]["steps"][j as usize];
+            assert_eq!(
+                (&other["final"][s], &other["end"]),
+                (&step.finals[s].into(), &step.upper.into())
+            );
+        }
+        let steps: usize = (0..(day.len() - 64) / 660)
+            .map(|k| reference::cut::cut(&day[64 + 660 * k..][..660]).count as usize)
+            .sum();
+        assert_eq!(rows.len(), 5 * steps);
+    }
+}
