@@ -54,9 +54,7 @@ fn read(name: &OsStr, most: usize) -> Result<Input> {
     let shown = shown(name);
     let read = match &path {
         Some(path) => File::open(path).and_then(|file| read_up_to(file, most)),
-        None if crate::start::was_closed(0) => {
-            Err(io::Error::new(io::ErrorKind::Other, "it is closed"))
-        }
+        None if crate::start::was_closed(0) => Err(io::Error::other("it is closed")),
         None => read_up_to(io::stdin().lock(), most),
     };
     match read {

@@ -17,8 +17,8 @@ pub fn run(options: &Options, out: &mut dyn Write) -> crate::outcome::Result<Sta
     let input = read_text(&options.files[0])?;
     let made = match options.format {
         Format::Text => make(&input.bytes).map_err(|fault| fault.to_string()),
-        Format::Csv => tables::make_table(&input.bytes),
-        Format::Json => tables::make_json(&input.bytes),
+        Format::Csv => tables::sheet::make(&input.bytes),
+        Format::Json => tables::json::make(&input.bytes),
     };
     let bytes = made.map_err(|why| Problem::refused(format!("{}: {why}", input.name)))?;
     let day = Input { bytes, ..input };

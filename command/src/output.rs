@@ -88,24 +88,26 @@ pub fn numbered(name: &str, count: usize, ending: &str) -> Vec<String> {
     (1..=count).map(|k| format!("{name}_{k}{ending}")).collect()
 }
 
-/// Columns under one another: the first to the left, the others to the right.
+/// Columns under one another: the first to the left, the others to the right. A row that ends early has its last cell as it is, to the left.
 pub fn aligned(rows: &[Vec<String>]) -> String {
     let columns = rows.iter().map(Vec::len).max().unwrap_or(0);
+    let is_short =
+        |row: &Vec<String>, column: usize| row.len() < columns && column + 1 == row.len();
     let width = |column: usize| {
-        rows.iter()
-            .filter_map(|row| row.get(column))
-            .map(|cell| cell.chars().count())
+        let rows = rows
+            .iter()
+            .filter(|row| column < row.len() && !is_short(row, column));
+        rows.map(|row| row[column].chars().count())
             .max()
+            .unwrap_or(0)
     };
-    let widths: Vec<usize> = (0..columns)
-        .map(|column| width(column).unwrap_or(0))
-        .collect();
+    let widths: Vec<usize> = (0..columns).map(width).collect();
     let mut text = String::new();
     for row in rows {
         for (column, cell) in row.iter().enumerate() {
-            let fill = " ".repeat(widths[column] - cell.chars().count());
+            let fill = " ".repeat(widths[column].saturating_sub(cell.chars().count()));
             match column {
-                0 if row.len() == 1 => text.push_str(cell),
+                _ if is_short(row, column) => text.push_str(&format!("  {cell}")),
                 0 => text.push_str(&format!("{cell}{fill}")),
                 _ => text.push_str(&format!("  {fill}{cell}")),
             }

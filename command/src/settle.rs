@@ -1,11 +1,12 @@
 //! `settle`: a day's report as the proved program prints it, its book, or one row for each of many days.
 
-use crate::amounts::{dollars_alike, grouped, MONEY_PLACES};
+use crate::amounts::{dollars_alike, grouped, money_sum, MONEY_PLACES};
 use crate::arguments::Options;
 use crate::layout::SCHEDULES;
 use crate::many::{self, Settled};
 use crate::outcome::{Result, Status};
 use crate::output::{aligned, numbered, put_json, Format, Table, Unit};
+use crate::values::counted;
 use mewikofu::{Book, BookLine, Side};
 use serde_json::{json, Value};
 use std::fmt::{Display, Write as _};
@@ -91,68 +92,39 @@ fn reports(settled: &[Settled], alone: bool, out: &mut dyn Write) -> Result<()> 
 
 /// The days with their totals in dollars, and the sums of all.
 fn summary(settled: &[Settled]) -> String {
-    let accepted = || settled.iter().filter_map(|day| day.answer.as_ref().ok());
-    let totals: Vec<i64> = accepted().flat_map(|book| book.totals()).collect();
-    let sums: [i128; SCHEDULES] =
-        std::array::from_fn(|s| accepted().map(|book| i128::from(book.totals()[s])).sum());
-    let decimals = dollars_alike(&totals, MONEY_PLACES, 2);
-    let mut amounts = decimals.chunks(SCHEDULES);
-    let mut rows = vec![["day".to_string(), "lines".to_string()]
+    let books: Vec<&Book> = settled
+        .iter()
+        .filter_map(|day| day.answer.as_ref().ok())
+        .collect();
+    let totals: Vec<i64> = books.iter().flat_map(|book| book.totals()).collect();
+    let totals = dollars_alike(&totals, MONEY_PLACES, 2);
+    let mut totals = totals.chunks(SCHEDULES);
+    let schedules = (1..=SCHEDULES).map(|s| format!("schedule {s}"));
+    let mut rows = vec![["day", "lines"]
+        .map(String::from)
         .into_iter()
-        .chain((1..=SCHEDULES).map(|s| format!("schedule {s}")))
-        .collect::<Vec<_>>()];
+        .chain(schedules)
+        .collect()];
     for day in settled {
+        let mut row = vec![day.name.clone()];
         match &day.answer {
             Ok(book) => {
-                let mut row = vec![day.name.clone(), book.line_count().to_string()];
-                row.extend(amounts.next().unwrap_or(&[]).iter().cloned());
-                rows.push(row);
+                row.push(book.line_count().to_string());
+                row.extend(totals.next().unwrap_or(&[]).iter().cloned());
             }
-            Err(stop) => rows.push(vec![day.name.clone(), stop.short()]),
+            Err(stop) => row.push(stop.short()),
         }
+        rows.push(row);
     }
+    let lines = books.iter().map(|book| book.line_count() as u64).sum();
     let mut last = vec![
-        format!(
-            "total of {}",
-            crate::values::counted(accepted().count(), "day")
-        ),
-        grouped(accepted().map(|book| book.line_count() as u64).sum()),
+        format!("total of {}", counted(books.len(), "day")),
+        grouped(lines),
     ];
-    last.extend(sums.map(crate::amounts::money_sum));
+    let sum = |s: usize| books.iter().map(|book| i128::from(book.totals()[s])).sum();
+    last.extend((0..SCHEDULES).map(|s| money_sum(sum(s))));
     rows.push(last);
-    aligned_with_stops(&rows)
-}
-
-/// Rows of two cells say why a day has no totals; they take no part in the columns' widths.
-fn aligned_with_stops(rows: &[Vec<String>]) -> String {
-    let full: Vec<Vec<String>> = rows
-        .iter()
-        .map(|row| {
-            if row.len() == 2 {
-                vec![row[0].clone()]
-            } else {
-                row.clone()
-            }
-        })
-        .collect();
-    let text = aligned(&full);
-    let first = full
-        .iter()
-        .map(|row| row[0].chars().count())
-        .max()
-        .unwrap_or(0);
-    let mut out = String::new();
-    for (line, row) in text.lines().zip(rows) {
-        match row.len() {
-            2 => {
-                let _ = writeln!(out, "{:first$}  {}", row[0], row[1]);
-            }
-            _ => {
-                let _ = writeln!(out, "{line}");
-            }
-        }
-    }
-    out
+    aligned(&rows)
 }
 
 /// One row for each line of each day, then the day's totals.

@@ -15,8 +15,8 @@ const ABOUT: &str = "# Quantities are in MJ.";
 
 pub fn run(options: &Options, out: &mut dyn Write) -> Result<Status> {
     match options.format {
-        Format::Csv => return tables::show_table(options, out),
-        Format::Json => return tables::show_json(options, out),
+        Format::Csv => return tables::sheet::show(options, out),
+        Format::Json => return tables::json::show(options, out),
         Format::Text => {}
     }
     each(&options.files, |file| {

@@ -2,6 +2,7 @@
 //! explained is what was settled.
 
 mod reason;
+mod sentences;
 mod totals;
 mod words;
 
@@ -78,7 +79,7 @@ pub struct Wanted {
 
 impl Wanted {
     fn has(&self, reason: &Reason) -> bool {
-        let is = |wanted: Option<usize>, own| wanted.map_or(true, |wanted| wanted == own);
+        let is = |wanted: Option<usize>, own| wanted.is_none_or(|wanted| wanted == own);
         is(self.line, reason.line) && is(self.step, reason.step) && is(self.schedule, reason.s)
     }
 }

@@ -1,6 +1,6 @@
 //! Totals and adjusted totals (document 01, "Totals and book"), beside the book's.
 
-use crate::amounts::{dollars, MONEY_PLACES};
+use super::sentences::money;
 use crate::figures::Figures;
 use crate::layout::*;
 
@@ -53,21 +53,27 @@ fn kept_back(totals: &BySchedule<i64>, adjusted: &BySchedule<i64>, s: usize) -> 
 /// One sentence for each schedule.
 pub fn sentences(day: &Figures) -> Vec<String> {
     let (totals, adjusted) = (day.book.totals(), day.book.adjusted());
-    let money = |value| dollars(value, MONEY_PLACES, 2);
     let sentence = |s: usize| {
         let (t, a) = (money(totals[s]), money(adjusted[s]));
-        let why = match s == 0 || totals[s] >= 0 {
-            true => {
-                let sums = money(least_sum(&totals, s));
-                let last = if s == 4 { "schedule 5's total alone".to_string() } else { format!("this total and the sums of it with those after it, up to schedule 5, the least is {sums}") };
-                match s {
-                    4 => format!("it is {last}, but at least $0"),
-                    _ => format!("of {last}; the adjusted total is that, but at least $0"),
-                }
-            }
-            false => format!("it is below $0, so what earlier schedules kept back, {}, is added, up to at most $0", money(kept_back(&totals, &adjusted, s))),
-        };
+        let why = why(&totals, &adjusted, s);
         format!("Schedule {}: total {t}, adjusted {a}: {why}.", s + 1)
     };
     (0..SCHEDULES).map(sentence).collect()
+}
+
+fn why(totals: &BySchedule<i64>, adjusted: &BySchedule<i64>, s: usize) -> String {
+    if s > 0 && totals[s] < 0 {
+        let kept = money(kept_back(totals, adjusted, s));
+        return format!(
+            "it is below $0, so what earlier schedules kept back, {kept}, is added, up to at most $0"
+        );
+    }
+    let least = money(least_sum(totals, s));
+    match s {
+        4 => "no schedule comes after, so it is the total, but at least $0".to_string(),
+        _ => format!(
+            "the least of this total and its sums with those that follow, up to schedule 5, is \
+             {least}, and the adjusted total is that, but at least $0"
+        ),
+    }
 }

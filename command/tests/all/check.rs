@@ -1,7 +1,10 @@
 //! Refusals in words.
 
-use crate::{example_text, run, stored};
-use mewikofu_command::refusals::{cut_faults, day_faults};
+use crate::{days, example_text, run, stored};
+use mewikofu::Refusal;
+use mewikofu_command::input::Input;
+use mewikofu_command::outcome::Status;
+use mewikofu_command::refusals::{cut_faults, day_faults, explain_day};
 use reference::generate::{
     damaged_day, damaged_day_and_number, damaged_line, edge_days, valid_day,
 };
@@ -53,11 +56,11 @@ fn each_number() {
 #[test]
 fn first_faults_have_the_proved_number() {
     let mut numbers = BTreeSet::new();
-    let days = (0..6_000)
+    let all = (0..days(6_000))
         .map(damaged_day)
         .chain((0..200).map(valid_day))
         .chain(edge_days());
-    for day in days {
+    for day in all {
         let number = mewikofu::settle(&day).map_or_else(|refusal| refusal.number(), |_| 0);
         let found = day_faults(&day, false)
             .first()
@@ -66,7 +69,7 @@ fn first_faults_have_the_proved_number() {
         numbers.insert(number);
     }
     assert!(numbers.into_iter().eq(0..=14));
-    for line in (0..2_000).map(damaged_line) {
+    for line in (0..days(2_000)).map(damaged_line) {
         let number = mewikofu::cut(&line).map_or_else(|refusal| refusal.number(), |_| 0);
         let found = cut_faults(&line, false)
             .first()
@@ -207,5 +210,35 @@ fn other_commands() {
     assert_eq!(
         message,
         "refused 17: line 0 has no step 2: it has 2 steps, counted from 0\n"
+    );
+}
+
+/// A search that finds another number than the proved one is said to be wrong, with status 2.
+#[test]
+fn another_number() {
+    let input = |bytes| Input {
+        name: "a".to_string(),
+        path: None,
+        bytes,
+        more: false,
+    };
+    let refused = input(stored("examples/refused.day"));
+    assert!(explain_day(&refused, Refusal::Prices).is_ok());
+    let problem = explain_day(&refused, Refusal::Hedge).unwrap_err();
+    assert_eq!(problem.status, Status::Failed);
+    let words = "the search for its place found 9: line 1";
+    assert!(
+        problem.message.starts_with("a: refused 11: "),
+        "{}",
+        problem.message
+    );
+    assert!(problem.message.contains(words), "{}", problem.message);
+    let accepted = input(stored("examples/k10.day"));
+    let problem = explain_day(&accepted, Refusal::Hedge).unwrap_err();
+    assert_eq!(problem.status, Status::Failed);
+    assert!(
+        problem.message.contains("found no fault"),
+        "{}",
+        problem.message
     );
 }

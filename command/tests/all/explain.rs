@@ -9,7 +9,7 @@ use reference::view::view;
 
 /// Days with clawback on and off.
 fn days() -> impl Iterator<Item = Vec<u8>> {
-    (0..250).map(|seed| {
+    (0..crate::days(250)).map(|seed| {
         let mut day = if seed % 5 == 0 {
             valid_day(seed)
         } else {
@@ -182,4 +182,35 @@ fn unpaid_step() {
         "{text}"
     );
     assert!(text.contains("0 x $0.0000 = $0.00"), "{text}");
+}
+
+/// The tables' rows have each payment once; over a line's steps they add up to the book's payment.
+#[test]
+fn tables() {
+    for (name, lines) in [("both-sides", 6), ("withdrawals", 4)] {
+        let day = stored(&format!("examples/{name}.day"));
+        let table = run(&["explain", "--csv", "--units"], &day).output();
+        let mut reader = csv::Reader::from_reader(&table[..]);
+        let names = reader.headers().unwrap().clone();
+        let place = |name: &str| names.iter().position(|other| other == name).unwrap();
+        let [line, schedule, paid] = ["line", "schedule", "final_units"].map(place);
+        let mut sums = vec![[0_i64; 5]; lines];
+        for row in reader.records().map(Result::unwrap) {
+            let number = |place: usize| row[place].parse::<i64>().unwrap();
+            sums[number(line) as usize][number(schedule) as usize - 1] += number(paid);
+        }
+        let report = String::from_utf8(stored(&format!("examples/{name}.report"))).unwrap();
+        for (row, sums) in report.lines().skip(1).zip(&sums) {
+            let payments = sums.map(|sum| sum.to_string()).join(" ");
+            assert!(row.ends_with(&format!(" {payments}")), "{row}: {payments}");
+        }
+        let json = run(&["explain", "--json", "--line", "1"], &day).output();
+        let json: serde_json::Value = serde_json::from_slice(&json).unwrap();
+        let payments = json["payments"].as_array().unwrap();
+        let sum: i64 = payments
+            .iter()
+            .map(|one| one["final"].as_i64().unwrap())
+            .sum();
+        assert_eq!(sum, sums[1].iter().sum::<i64>());
+    }
 }

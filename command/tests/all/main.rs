@@ -83,3 +83,9 @@ fn stored(path: &str) -> Vec<u8> {
 fn example_text() -> String {
     String::from_utf8(stored("command/example.day.txt")).unwrap()
 }
+
+/// How many generated days a test takes: so many, or those that MEWIKOFU_DAYS in the environment says.
+fn days(usual: u64) -> u64 {
+    let wanted = std::env::var("MEWIKOFU_DAYS").ok();
+    wanted.map_or(usual, |wanted| wanted.parse().expect("a number of days"))
+}

@@ -36,7 +36,7 @@ impl Drop for Folder {
 /// Even seeds without fault, odd ones damaged.
 fn write_days(folder: &Path, count: u64) -> Vec<(String, Vec<u8>)> {
     let write = |seed: u64| {
-        let day = if seed % 2 == 0 {
+        let day = if seed.is_multiple_of(2) {
             valid_day(seed)
         } else {
             damaged_day(seed)

@@ -115,7 +115,7 @@ fn wrong_tables() {
     );
     assert_eq!(
         message(&format!("{names}\n{row},1\n")),
-        "row in line 2: it has 84 cells, and the header has 83\n"
+        "row 2: it has 84 cells, and the header has 83\n"
     );
     // As spreadsheets write it: a mark before the text, line ends of two bytes, empty rows, trailing zeros gone.
     let other = format!(

@@ -1,0 +1,381 @@
+//! Days as tables for spreadsheets, there and back: a header row and a row for each line of the day. The market table's values stand on every row alike.
+
+use super::{has_shape, lines, not_said};
+use crate::arguments::Options;
+use crate::form::Kind;
+use crate::input::{read_day, Input};
+use crate::layout::*;
+use crate::outcome::{each, Result, Status};
+use crate::output::{Table, Unit};
+use crate::values::{read_value, write_value};
+use std::collections::BTreeMap;
+use std::io::Write;
+
+/// Or where and what is wrong.
+type Read<T> = std::result::Result<T, String>;
+
+/// One column: its name without the unit, and the word that it holds.
+struct Column {
+    name: String,
+    kind: Kind,
+    place: Place,
+    /// Bid steps past the bid's count are empty, and their columns may be left out.
+    slot: Option<(usize, usize)>,
+}
+
+#[derive(Clone, Copy, PartialEq, Eq)]
+enum Place {
+    Market(usize),
+    Line(usize),
+}
+
+/// The columns of a day whose bids have at most so many steps.
+fn columns(slots: usize) -> Vec<Column> {
+    let mut columns = Vec::new();
+    let mut add = |name: String, kind, place, slot| {
+        columns.push(Column {
+            name,
+            kind,
+            place,
+            slot,
+        })
+    };
+    for s in 0..SCHEDULES {
+        add(
+            format!("market_price_{}", s + 1),
+            Kind::Price,
+            Place::Market(MARKET_PRICE + s),
+            None,
+        );
+    }
+    for s in 0..SCHEDULES {
+        add(
+            format!("capped_{}", s + 1),
+            Kind::YesNo,
+            Place::Market(CAP_MARK + s),
+            None,
+        );
+    }
+    add("apc".into(), Kind::Price, Place::Market(PRICE_CAP), None);
+    add(
+        "clawback".into(),
+        Kind::YesNo,
+        Place::Market(CLAWBACK),
+        None,
+    );
+    add(
+        "participant".into(),
+        Kind::Number,
+        Place::Line(PARTICIPANT),
+        None,
+    );
+    add("point".into(), Kind::Number, Place::Line(POINT), None);
+    add("side".into(), Kind::Side, Place::Line(SIDE), None);
+    add(
+        "accredited".into(),
+        Kind::YesNo,
+        Place::Line(ACCREDITATION),
+        None,
+    );
+    add("hedge".into(), Kind::Number, Place::Line(HEDGE), None);
+    for s in 0..SCHEDULES {
+        for k in 0..slots {
+            add(
+                format!("bid_{}_break_{}", s + 1, k + 1),
+                Kind::Number,
+                Place::Line(break_place(s, k)),
+                Some((s, k)),
+            );
+            add(
+                format!("bid_{}_price_{}", s + 1, k + 1),
+                Kind::Price,
+                Place::Line(price_place(s, k)),
+                Some((s, k)),
+            );
+        }
+    }
+    for s in 0..SCHEDULES {
+        for i in s..SCHEDULES {
+            add(
+                format!("pricing_{}_{}", s + 1, i + 1),
+                Kind::Number,
+                Place::Line(pricing_place(s, i)),
+                None,
+            );
+        }
+    }
+    for s in 0..SCHEDULES {
+        for i in 0..SCHEDULES {
+            add(
+                format!("operating_{}_{}", s + 1, i + 1),
+                Kind::Number,
+                Place::Line(operating_place(s, i)),
+                None,
+            );
+        }
+    }
+    for i in 0..SCHEDULES {
+        add(
+            format!("actual_{}", i + 1),
+            Kind::Number,
+            Place::Line(actual_place(i)),
+            None,
+        );
+    }
+    columns
+}
+
+impl Column {
+    /// Prices have the unit in the name.
+    fn written(&self, unit: Unit) -> String {
+        match self.kind {
+            Kind::Price => format!("{}_{}", self.name, unit.name()),
+            _ => self.name.clone(),
+        }
+    }
+}
+
+/// The most steps of a bid.
+fn most_slots(day: &[u8]) -> usize {
+    let counts =
+        lines(day).flat_map(|line| (0..SCHEDULES).map(|s| word(line, count_place(s)) as usize));
+    counts.max().unwrap_or(0).min(BID_SLOTS)
+}
+
+/// The rows of all files under one header.
+pub fn show(options: &Options, out: &mut dyn Write) -> Result<Status> {
+    let mut days = Vec::new();
+    let read = each(&options.files, |file| {
+        let input = read_day(file)?;
+        match has_shape(&input.bytes) {
+            true => days.push(input),
+            false => return Err(not_said(&input)),
+        }
+        Ok(())
+    })?;
+    let slots = days.iter().map(|input| most_slots(&input.bytes)).max();
+    let columns = columns(slots.unwrap_or(0));
+    let names = columns.iter().map(|column| column.written(options.unit));
+    let names: Vec<String> = ["day".to_string()].into_iter().chain(names).collect();
+    let mut table = Table::new(out, &names)?;
+    let shown = each(&days, |input| {
+        let rows = rows(input, &columns, options.unit);
+        if make_rows(&names, &rows).as_ref() != Ok(&input.bytes) {
+            return Err(not_said(input));
+        }
+        rows.iter().try_for_each(|row| table.row(&row.cells))
+    })?;
+    table.finish()?;
+    Ok(read.max(shown))
+}
+
+/// A row and the line of the text that it stands in.
+struct Row {
+    line: u64,
+    cells: Vec<String>,
+}
+
+fn rows(input: &Input, columns: &[Column], unit: Unit) -> Vec<Row> {
+    let cells = |line| row(&input.name, &input.bytes, line, columns, unit);
+    let rows = lines(&input.bytes).zip(2..);
+    rows.map(|(bytes, line)| Row {
+        line,
+        cells: cells(bytes),
+    })
+    .collect()
+}
+
+fn row(name: &str, day: &[u8], line: &[u8], columns: &[Column], unit: Unit) -> Vec<String> {
+    let cell = |column: &Column| {
+        let value = match column.place {
+            Place::Market(place) => word(day, place),
+            Place::Line(place) => word(line, place),
+        };
+        match (column.slot, column.kind) {
+            (Some((s, k)), _) if k >= word(line, count_place(s)) as usize => String::new(),
+            (_, Kind::Price) => unit.price(value),
+            (_, kind) => write_value(kind, value, Unit::Units),
+        }
+    };
+    [name.to_string()]
+        .into_iter()
+        .chain(columns.iter().map(cell))
+        .collect()
+}
+
+/// The day that a table says.
+pub fn make(text: &[u8]) -> Read<Vec<u8>> {
+    // Spreadsheets put this mark before the text.
+    let text = text.strip_prefix(b"\xEF\xBB\xBF").unwrap_or(text);
+    let mut reader = csv::ReaderBuilder::new()
+        .has_headers(false)
+        .trim(csv::Trim::All)
+        .from_reader(text);
+    let mut rows = Vec::new();
+    for record in reader.records() {
+        let record = record.map_err(|error| table_error(&error))?;
+        let cells: Vec<String> = record.iter().map(String::from).collect();
+        // Spreadsheets have empty rows.
+        if cells.iter().any(|cell| !cell.is_empty()) {
+            let line = record.position().map_or(0, csv::Position::line);
+            rows.push(Row { line, cells });
+        }
+    }
+    match rows.split_first() {
+        Some((names, rows)) => make_rows(&names.cells, rows),
+        None => Err("the table has no header row".to_string()),
+    }
+}
+
+fn table_error(error: &csv::Error) -> String {
+    let at = |pos: &Option<csv::Position>| pos.as_ref().map_or(0, csv::Position::line);
+    match error.kind() {
+        csv::ErrorKind::UnequalLengths {
+            pos,
+            expected_len,
+            len,
+        } => {
+            format!(
+                "row {}: it has {len} cells, and the header has {expected_len}",
+                at(pos)
+            )
+        }
+        csv::ErrorKind::Utf8 { pos, .. } => format!("row {}: the text isn't UTF-8", at(pos)),
+        _ => error.to_string(),
+    }
+}
+
+/// Where each column stands, and in which unit.
+struct Found {
+    column: Column,
+    place: Option<(usize, Unit)>,
+}
+
+fn make_rows(names: &[String], rows: &[Row]) -> Read<Vec<u8>> {
+    let found = find_columns(names)?;
+    let count = rows.len();
+    if !(1..=MOST_LINES).contains(&count) {
+        return Err(format!(
+            "the table has {count} rows below its header; a day has 1 to 64 lines"
+        ));
+    }
+    let mut day = vec![0; day_length(count)];
+    put_words(&mut day, &header(count));
+    for (k, row) in rows.iter().enumerate() {
+        let filled = put_row(&mut day, k, &found, &row.cells)
+            .and_then(|()| put_counts(&mut day[day_length(k)..], &found, &row.cells));
+        filled.map_err(|(name, message)| format!("row {}, {name}: {message}", row.line))?;
+    }
+    check_day_names(names, rows)?;
+    Ok(day)
+}
+
+/// Column and message.
+type Filled = std::result::Result<(), (String, String)>;
+
+/// The words of line k, and of the market with the first line.
+fn put_row(day: &mut [u8], k: usize, found: &[Found], cells: &[String]) -> Filled {
+    for Found { column, place } in found {
+        let Some((place, unit)) = *place else {
+            continue;
+        };
+        let text = &cells[place];
+        if column.slot.is_some() && text.is_empty() {
+            continue;
+        }
+        let name = || column.written(unit);
+        let value = read_cell(column.kind, unit, text).map_err(|message| (name(), message))?;
+        match column.place {
+            Place::Market(place) if k > 0 && word(day, place) != value => {
+                let rule = "the market is the same on every row";
+                return Err((name(), format!("'{text}' isn't the first row's; {rule}")));
+            }
+            Place::Market(place) => put_word(day, place, value),
+            Place::Line(place) => put_word(&mut day[day_length(k)..], place, value),
+        }
+    }
+    Ok(())
+}
+
+fn check_day_names(names: &[String], rows: &[Row]) -> Read<()> {
+    let Some(place) = names.iter().position(|name| name == "day") else {
+        return Ok(());
+    };
+    let first = &rows[0].cells[place];
+    match rows.iter().find(|row| row.cells[place] != *first) {
+        Some(Row { line, cells }) => {
+            let other = &cells[place];
+            Err(format!(
+                "row {line}, day: '{other}' isn't '{first}'; a table is of one day"
+            ))
+        }
+        None => Ok(()),
+    }
+}
+
+/// A bid's count is that of its filled steps, which come first.
+fn put_counts(line: &mut [u8], found: &[Found], cells: &[String]) -> Filled {
+    let mut filled = [[[false; 2]; BID_SLOTS]; SCHEDULES];
+    for Found { column, place } in found {
+        if let (Some((s, k)), Some((place, _))) = (column.slot, place) {
+            filled[s][k][usize::from(column.kind == Kind::Price)] = !cells[*place].is_empty();
+        }
+    }
+    for (s, slots) in filled.iter().enumerate() {
+        let name = |k| format!("bid_{}_break_{}", s + 1, k + 1);
+        let count = slots.iter().take_while(|slot| **slot != [false; 2]).count();
+        if let Some(k) = slots[..count].iter().position(|slot| *slot != [true; 2]) {
+            return Err((name(k), "a bid's step has a break and a price".to_string()));
+        }
+        if let Some(k) = (count..BID_SLOTS).find(|&k| slots[k] != [false; 2]) {
+            return Err((name(k), "a step stands after an empty one".to_string()));
+        }
+        put_word(line, count_place(s), count as u32);
+    }
+    Ok(())
+}
+
+/// In dollars a price is a decimal number, with or without a dollar sign.
+fn read_cell(kind: Kind, unit: Unit, text: &str) -> Read<u32> {
+    match (kind, unit) {
+        (Kind::Price, Unit::Dollars) if !text.starts_with('$') => {
+            read_value(kind, &format!("${text}"))
+        }
+        _ => read_value(kind, text),
+    }
+}
+
+fn find_columns(names: &[String]) -> Read<Vec<Found>> {
+    let mut places = BTreeMap::new();
+    for (place, name) in names.iter().enumerate() {
+        if places.insert(name.as_str(), place).is_some() {
+            return Err(format!("two columns have the name '{name}'"));
+        }
+    }
+    places.remove("day");
+    let mut found = Vec::new();
+    for column in columns(BID_SLOTS) {
+        let mut units = [Unit::Dollars, Unit::Units].into_iter().filter_map(|unit| {
+            let place = places.remove(column.written(unit).as_str())?;
+            Some((place, unit))
+        });
+        let place = units.next();
+        if units.next().is_some() {
+            return Err(format!(
+                "'{}' is there in dollars and in units",
+                column.name
+            ));
+        }
+        if place.is_none() && column.slot.is_none() {
+            return Err(format!(
+                "the table has no column '{}'",
+                column.written(Unit::Dollars)
+            ));
+        }
+        found.push(Found { column, place });
+    }
+    match places.keys().next() {
+        Some(name) => Err(format!("unknown column '{name}'")),
+        None => Ok(found),
+    }
+}
