@@ -29,10 +29,11 @@ bid-most-requires-5 c κs =
 
 returns : tie.Need-returns
 returns c =
-    let after-bid-most3 = c .before .before .before .before .before in
+    let after-greater2 = c .before .before .before .before in
+    let after-bid-most3 = after-greater2 .before in
     most-five _ _ _ _ _ _ _ _ _ _ (after-bid-most3 .before .before .before .bid-most .ensures)
     (after-bid-most3 .before .before .bid-most2 .ensures) (after-bid-most3 .before .greater .ensures)
-    (after-bid-most3 .bid-most3 .ensures) (c .before .before .before .before .greater2 .ensures)
+    (after-bid-most3 .bid-most3 .ensures) (after-greater2 .greater2 .ensures)
     (c .before .before .before .bid-most4 .ensures) (c .before .before .greater3 .ensures) (c .before .bid-most5 .ensures)
     (c .greater4 .ensures)
 
