@@ -4,7 +4,7 @@
 use Prim.Native.Nat.{ℕ}
 use mathlib.Core.List.{List, [], _∷_, _++_}
 use lib.ListN.{replicate}
-use Rattle.rules.specs.Worked.Cases.{Case, concat, bytesOf, linesOf, bid, neg, row, viewRows, number, booked, printed, viewed, cutInto}
+use Rattle.rules.specs.Worked.Cases.{Case, concat, bytesOf, linesOf, bid, neg, row, viewFields, number, booked, printed, viewed, cutInto}
 use Rattle.rules.specs.Refusals.{dayFault, settleFault, viewFault, linePartFault}
 use Rattle.rules.specs.Viewing.{viewAnswer}
 
@@ -179,7 +179,7 @@ base2CallsOn d =
     ∷ number (linePartFault d 1) 0
     ∷ number (linePartFault d 2) 16
     ∷ booked d (replicate 207 170) (replicate 207 170)
-    ∷ record { found = viewRows (viewAnswer d 2 0); expected = 16 ∷ replicate 68 0 }
+    ∷ record { found = viewFields (viewAnswer d 2 0); expected = 16 ∷ replicate 68 0 }
     ∷ []
 
 -- it is accepted; its book, in a lent one a byte longer; its report; every step of every line; every line

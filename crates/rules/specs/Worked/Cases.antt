@@ -4,9 +4,8 @@ use Prim.Native.Char.{code}
 use Prim.Native.String.{String, len, charAt}
 use mathlib.Core.List.{List, [], _∷_, _++_, map}
 use mathlib.Core.Bool.{Bool, true, false, _&&_}
-use lib.ListN.{length, replicate}
+use lib.ListN.{length, getD, replicate}
 use lib.Dec.{eqb}
-use Rattle.rules.specs.Fold.{at, atZ}
 use Rattle.rules.specs.Layout.{lineAt}
 use Rattle.rules.specs.Cutting.{cutAnswer}
 use Rattle.rules.specs.Viewing.{viewAnswer}
@@ -69,18 +68,19 @@ neg n = 2 ^ 64 - n
 abbrev pub row : ℕ → ℕ → ℕ → ℕ → ℕ → ℕ → ℕ → ℕ → ℕ → ℕ → ℕ → List ℕ
 row p f o e g q c i r m a = p ∷ f ∷ o ∷ e ∷ g ∷ q ∷ c ∷ i ∷ r ∷ m ∷ a ∷ []
 
--- a view by its schedules
-unfoldable pub rowOf : View → ℕ → List ℕ
-rowOf v s =
-    row (at (v .price) s) (at (v .flag) s) (at (v .operating) s) (at (v .pricing) s) (at (v .agino) s) (at (v .msiq) s) (at (v .constrained) s)
-    (bits64 (atZ (v .initial) s)) (bits64 (atZ (v .revised) s)) (bits64 (atZ (v .modified) s)) (bits64 (atZ (v .finals) s))
+-- the i-th number of each row
+abbrev column : ℕ → List (List ℕ) → List ℕ
+column i [] = []
+column i (r ∷ rs) = getD r i 0 ∷ column i rs
 
-unfoldable pub viewRows : View → List ℕ
-viewRows v =
-    v .number ∷ v .end ∷ v .width ∷ v .actual ∷ rowOf v 0 ++ rowOf v 1 ++ rowOf v 2 ++ rowOf v 3 ++ rowOf v 4 ++ v .matches
+-- every field of a view and of a cutter's answer, each whole
+unfoldable pub viewFields : View → List ℕ
+viewFields v =
+    v .number ∷ v .end ∷ v .width ∷ v .actual ∷ v .price ++ v .flag ++ v .operating ++ v .pricing ++ v .agino ++ v .msiq ++ v .constrained ++ v .matches
+    ++ map bits64 (v .initial) ++ map bits64 (v .revised) ++ map bits64 (v .modified) ++ map bits64 (v .finals)
 
-unfoldable pub cutRows : Cut → List ℕ
-cutRows c = c .number ∷ c .count ∷ c .ends ++ c .prices ++ c .flags ++ c .missing
+unfoldable pub cutFields : Cut → List ℕ
+cutFields c = c .number ∷ c .count ∷ c .ends ++ c .prices ++ c .flags ++ c .missing
 
 -- a number
 abbrev pub number : ℕ → ℕ → Case
@@ -94,11 +94,17 @@ abbrev pub printed : List ℕ → List ℕ → Case
 printed d e = record { found = reportText d; expected = e }
 
 abbrev pub viewed : List ℕ → ℕ → ℕ → List ℕ → List (List ℕ) → List ℕ → Case
-viewed d k j e rows m = record { found = viewRows (viewAnswer d k j); expected = 0 ∷ e ++ concat rows ++ m }
+viewed d k j e r m =
+    record {
+      found = viewFields (viewAnswer d k j);
+      expected =
+          0 ∷ e ++ column 0 r ++ column 1 r ++ column 2 r ++ column 3 r ++ column 4 r ++ column 5 r ++ column 6 r ++ m
+          ++ column 7 r ++ column 8 r ++ column 9 r ++ column 10 r;
+    }
 
 abbrev pub cutInto : List ℕ → ℕ → List ℕ → List (List ℕ) → List ℕ → List ℕ → Case
 cutInto d k e p f m =
     record {
-      found = cutRows (cutAnswer (lineAt d k));
+      found = cutFields (cutAnswer (lineAt d k));
       expected = 0 ∷ length e ∷ filled 56 e ++ concat (map (filled 56) p) ++ f ++ m;
     }

@@ -16,7 +16,7 @@ use Rattle.rules.specs.Book.{le, bookHeader, totalPair, lineEntry, bookO
 use Rattle.rules.specs.Report.{digits, decimal, signedDecimal, sideText, numberAfter, fiveNumbers, lineText, settledText, refusedLine, reportText}
 use Rattle.rules.specs.Cutting.{prices, flags, bits, flagWord, missing, priceRow, cutOf, cutRefused, cutAnswer}
 use Rattle.rules.specs.Viewing.{viewOf, viewRefused, viewAnswer}
-use Rattle.rules.specs.Worked.Cases.{rowOf, viewRows, cutRows}
+use Rattle.rules.specs.Worked.Cases.{viewFields, cutFields}
 
 unfoldable pub opened : ℕ
 unfolding refuse _orElse_ first before sumTo sumZ mostTo someTo joined listTo sumOf padded headerFault marketPriceFault markFault
@@ -30,5 +30,5 @@ unfolding refuse _orElse_ first before sumTo sumZ mostTo someTo joined listTo su
     poolTotal poolChange poolBase poolDiffers poolOf
     stepFinal linePayment total leastSum adjustedAfter carried adjusted totals adjustedTotal le bookHeader totalPair
     lineEntry bookOf bookAfter digits decimal signedDecimal sideText numberAfter fiveNumbers
-    lineText settledText refusedLine reportText prices flags bits flagWord missing priceRow cutOf cutRefused cutAnswer viewOf viewRefused viewAnswer rowOf viewRows cutRows
+    lineText settledText refusedLine reportText prices flags bits flagWord missing priceRow cutOf cutRefused cutAnswer viewOf viewRefused viewAnswer viewFields cutFields
 opened = 0

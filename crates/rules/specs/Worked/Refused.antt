@@ -5,7 +5,7 @@ use lib.ListN.{replicate, take, drop, set}
 use Rattle.rules.specs.Refusals.{dayFault, settleFault, viewFault, linePartFault, cutFault}
 use Rattle.rules.specs.Viewing.{viewAnswer}
 use Rattle.rules.specs.Cutting.{cutAnswer}
-use Rattle.rules.specs.Worked.Cases.{Case, concat, bytesOf, linesOf, bid, number, viewRows, cutRows, booked, printed}
+use Rattle.rules.specs.Worked.Cases.{Case, concat, bytesOf, linesOf, bid, number, viewFields, cutFields, booked, printed}
 
 -- A day at every limit, which is accepted: prices and APC 10,000,000, marks and switch 1, an injection with 11 equal prices of 10,000,000 in its
 -- first bid and one step in each other, M = 200,000,000, and hedge, every pricing and operating total and every actual 200,000,000 too.
@@ -94,7 +94,7 @@ cutterCases w =
     ∷ number (cutFault (w ++ (0 ∷ []))) 18
     ∷ number (cutFault (take 659 (drop 64 (changed limitWords 18 2)))) 18
     ∷ number (cutFault (drop 64 (changed limitWords 18 2))) 6
-    ∷ record { found = cutRows (cutAnswer (take 659 w)); expected = 18 ∷ replicate 347 0 }
+    ∷ record { found = cutFields (cutAnswer (take 659 w)); expected = 18 ∷ replicate 347 0 }
     ∷ []
 
 unfoldable pub answerCases : List ℕ → List Case
@@ -105,7 +105,7 @@ answerCases d =
     ∷ number (linePartFault (take 63 d) 9) 1
     ∷ booked d (replicate 152 170) (replicate 152 170)
     ∷ printed d (linesOf ("refused 4" ∷ []))
-    ∷ record { found = viewRows (viewAnswer d 0 0); expected = 4 ∷ replicate 68 0 }
+    ∷ record { found = viewFields (viewAnswer d 0 0); expected = 4 ∷ replicate 68 0 }
     ∷ []
 
 -- what is met before a line's last bid
