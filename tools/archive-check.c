@@ -1,5 +1,6 @@
-/* Stack that each function takes on a day of 64 lines, made of the lines of the day file named on the command line: each is called on a stack of
-   its own, painted before, and how far the paint is gone is counted, less what a call of nothing takes. Ends with 1 where one takes 20,000 bytes or more, or refuses. */
+/* Stack that each function takes on a day of 64 lines, made of the lines of the day file named on the command line: each is called on a stack of its own,
+   painted before, and how far the paint is gone is counted, less what a call of nothing takes. Ends with 1 where one takes 20,000 bytes or more, or
+   refuses. */
 #include "mewikofu.h"
 
 #include <stdio.h>
