@@ -1,6 +1,7 @@
 -- Evidence beside the definitions, which name none of it: K1 to K10 (Figures), figures worked by hand (ByHand), three days with the figures of an
 -- implementation written from the papers by other hands (Base1 to Base3) and each refusal on both sides of its boundary (Refused), all
--- computed on the definitions (Lemma).
+-- computed on the definitions (Lemma). Of the three days that implementation's report and steps were taken; their books are written from the
+-- report by document 01's layout.
 pub mod Cases
 pub mod Opened
 pub mod Figures

@@ -1,7 +1,7 @@
 -- Base 1: three withdrawals and an injection, clawback on. Marks in schedules 2 and 3 with APC 4 lower prices of lines 1 and 2. No hedge.
 -- Line 1 is not accredited; it has participant and point of line 3, on the other side. Lines 0 and 3 have bids that end below the last
 -- step (flag 1), and a final there that is the modified payment. Effective actuals below the operating total (AGINO) on line 1. Operating
--- totals that rise and fall, so rises matched by several falls. Totals of both signs, so that some adjusted ones are 0.
+-- totals that rise and fall, with a fall that takes two rises (line 0, step 2). Totals of both signs, so that some adjusted ones are 0.
 use Prim.Native.Nat.{ℕ}
 use mathlib.Core.List.{List, [], _∷_, _++_}
 use lib.ListN.{replicate}

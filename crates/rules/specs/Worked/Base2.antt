@@ -1,6 +1,7 @@
 -- Base 2: an injection that is hedged whole (hedge 7, its greatest break) and a withdrawal, clawback on. Marks in schedules 2 and 5 with APC 4
 -- lower prices of both lines. Bids of one step, so missing prices on both lines. On line 1: finals that are the modified payment (schedule 4),
--- and one that is pooled (step 1, schedule 5, where T is 11, B 6 and D 1). Participant and point are the greatest words.
+-- and one that is pooled (step 1, schedule 5, where T is 11, B 6 and D 1). A rise that two falls take (line 1, step 1).
+-- Participant and point of line 0 are the greatest words.
 use Prim.Native.Nat.{ℕ}
 use mathlib.Core.List.{List, [], _∷_, _++_}
 use lib.ListN.{replicate}
