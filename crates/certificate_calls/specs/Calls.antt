@@ -70,6 +70,13 @@ day-certified d h =
     let b : List ℕ = replicate (bookLength (lineCount d)) 0 in
     certified d b (bookAfter d b) (viewAnswer d) (λ i. cutAnswer (lineAt d i)) h (omega (arith, length-replicate {A = ℕ} (bookLength (lineCount d)) 0)) refl (λ i m. refl) (λ i. refl)
 
+-- the cutter counts the step
+pub count-there : (d : List ℕ) (k j : ℕ) → Viewed d k j → j < lineCut d k .count
+unfolding lineCut cutOf
+count-there d k j t =
+    let e : lineCut d k .count ≡ stepCount (lineAt d k) = ap (λ (x : Cut). x .count) (cut-whole d (t .accepted) k (t .line)) in
+    omega (arith, t .step)
+
 -- the part that is lent is the line
 part-there : (d : List ℕ) (k : ℕ) → dayFault d ≡ 0 → k < lineCount d → linePart d k ≡ lineAt d k
 unfolding linePart linePartFault dayFault _orElse_
@@ -85,10 +92,6 @@ module _ (d : List ℕ) (k j : ℕ) (v : View) (p : List ℕ) (c : Cut) (ve : v 
   unfolding lineCut
   own = ce ∙ ap cutAnswer (pe ∙ part-there d k (there .accepted) (there .line))
 
-  count-is : lineCut d k .count ≡ stepCount (lineAt d k)
-  unfolding lineCut cutOf
-  count-is = ap (λ (x : Cut). x .count) (cut-whole d (there .accepted) k (there .line))
-
   pub step-few : j < 56
   step-few = omega (arith, there .step, count-most (lineAt d k) (accepted-line-at d (accepted-day d (there .accepted)) k (there .line)))
 
@@ -96,5 +99,5 @@ module _ (d : List ℕ) (k j : ℕ) (v : View) (p : List ℕ) (c : Cut) (ve : v 
   unfolding endAt
   same-end =
       ap (λ (x : Cut). getD (x .ends) j 0) own
-      ∙ day-certified d (there .accepted) .same-end k j (there .line) (omega (arith, there .step, count-is))
+      ∙ day-certified d (there .accepted) .same-end k j (there .line) (count-there d k j there)
       ∙ sym (ap (λ (u : View). u .end) ve)

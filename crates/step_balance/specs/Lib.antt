@@ -1,0 +1,2 @@
+-- Demand 3 on one step's matches.
+pub mod Balance
