@@ -80,7 +80,10 @@ the exit status is 1.";
 const BOOK: &str = "\
 Prints book files, which `settle --books` writes: totals, adjusted totals and each line's payments.";
 
-const DRAW: &str = "Draws a day's totals and one of its lines as a page of SVG.";
+const DRAW: &str = "\
+Draws a day as one page of HTML, which needs nothing but the file: a table of all lines' payments; \
+of the chosen line its steps' rises and falls as bars with what was paid and taken back, and its \
+prices beside market price and cap. On the page another line can be chosen.";
 
 const UNITS: &str = "\
 Prices in whole units of $0.0001 per GJ and money in whole units of $0.0000001, as JSON always has \
@@ -260,9 +263,13 @@ fn book() -> Command {
 }
 
 fn draw() -> Command {
-    sub("draw", "Draws a day and one of its lines", DRAW)
+    sub("draw", "Draws a day as a page of HTML", DRAW)
         .arg(file("DAY", "A day file"))
-        .arg(index("line", "K", "Draw line K, from 0 [default: 0]"))
+        .arg(index(
+            "line",
+            "K",
+            "Show line K, from 0, at first [default: 0]",
+        ))
 }
 
 fn completion() -> Command {

@@ -1,42 +1,282 @@
-//! A day as one page of SVG: the totals by schedule, and one line's steps.
+//! A day as one page of HTML: a table of all lines' payments; of the chosen line its rises and falls as bars with their payments, and its prices.
+//! It has no script and needs nothing from outside. Where a browser doesn't know `:has`, all lines are shown.
 
 mod axis;
-mod figures;
-mod line;
-mod look;
-mod steps;
-mod svg;
-mod totals;
+mod changes;
+mod lines;
+mod markup;
+mod prices;
+mod settled;
 
+use crate::amounts::{dollars, Energy, MONEY_PLACES, PRICE_PLACES};
 use crate::arguments::Options;
-use crate::outcome::{Result, Status};
-use figures::Figures;
-use look::*;
+use crate::figures::{Figures, Line};
+use crate::layout::SCHEDULES;
+use crate::outcome::{Problem, Result, Status};
+use crate::values::counted;
+use markup::Markup;
+use mewikofu::{Cut, Side, View};
+use std::fmt::Write as _;
 use std::io::Write;
-use svg::{Anchor, Page};
+
+const SHEET: &str = include_str!("page.css");
 
 pub fn run(options: &Options, out: &mut dyn Write) -> Result<Status> {
     let (input, day) = crate::figures::read(&options.files[0])?;
-    let line = options.line.unwrap_or(0);
-    let page = draw(&day, line).ok_or_else(|| crate::cut::no_line(&input, line))?;
+    let chosen = options.line.unwrap_or(0);
+    if chosen >= day.lines.len() {
+        return Err(crate::cut::no_line(&input, chosen));
+    }
+    let page = page(&input.name, &input.bytes, &day, chosen)?;
     out.write_all(page.as_bytes())?;
     Ok(Status::Accepted)
 }
 
-/// The page for a day and one of its lines, from 0; none where it has no such line.
-pub fn draw(day: &crate::figures::Figures, line: usize) -> Option<String> {
-    Some(draw_page(&Figures::new(day, line)?))
+/// What all parts of the page need.
+struct Drawn<'a> {
+    day: &'a Figures,
+    cuts: Vec<Cut>,
+    /// One unit of quantities for the whole page.
+    energy: Energy,
+    /// The line that is shown at first.
+    chosen: usize,
 }
 
-fn draw_page(figures: &Figures) -> String {
-    let mut page = Page::default();
-    let title = format!("Gas day of {}", figures.size());
-    page.text((MARGIN, 38.0), Anchor::Start, TITLE, &title);
-    page.text((MARGIN, 60.0), Anchor::Start, BODY, &figures.market_words());
-    let below = totals::draw(&mut page, figures, 98.0);
-    let below = line::draw(&mut page, figures, below + 42.0);
-    let below = steps::draw(&mut page, figures, below + 40.0);
-    let about = "Figures of the proved settling and step view. Lines and steps are counted from 0, schedules from 1.";
-    page.text((MARGIN, below + 26.0), Anchor::Start, SMALL, about);
-    page.finish(PAGE_WIDTH, below + 44.0, &title)
+/// The page of a day on which one of its lines is shown at first. It is made only if its figures are those of the book.
+pub fn page(name: &str, bytes: &[u8], day: &Figures, chosen: usize) -> Result<String> {
+    let cuts = settled::cuts(bytes, day).map_err(|why| {
+        Problem::failed(format!(
+            "{name}: the page wouldn't be what was settled, so none is drawn: {why}"
+        ))
+    })?;
+    let steps = day.lines.iter().flat_map(|line| &line.steps);
+    let end = steps.map(|step| i64::from(step.end)).max().unwrap_or(0);
+    let drawn = Drawn {
+        day,
+        cuts,
+        energy: Energy::of_greatest(end),
+        chosen,
+    };
+    let file = std::path::Path::new(name).file_name();
+    let file = file.map_or(name.into(), |file| file.to_string_lossy());
+    let title = format!("Gas day {file}");
+    let mut page = Markup::with_start("<!DOCTYPE html>\n");
+    head(&mut page, &title, day.lines.len());
+    page.open("body").row_end();
+    hatches(&mut page);
+    page.open("header").element("h1", &title);
+    page.element("p", &about(&drawn)).close().row_end();
+    page.open("main").row_end();
+    lines::put(&mut page, &drawn);
+    legend(&mut page, &drawn);
+    for (k, line) in day.lines.iter().enumerate() {
+        put_line(&mut page, &drawn, k, line);
+    }
+    page.close().row_end();
+    footer(&mut page);
+    Ok(page.finish())
+}
+
+fn head(page: &mut Markup, title: &str, lines: usize) {
+    page.open("html lang=\"en\"").open("head").row_end();
+    page.empty("meta charset=\"utf-8\"");
+    page.empty("meta name=\"viewport\" content=\"width=device-width, initial-scale=1\"");
+    page.element("title", title).row_end();
+    // One line is shown, or all of them.
+    let mut sheet = format!("\n{SHEET}@supports selector(:has(a)) {{\n.line {{ display: none }}\n");
+    for k in 0..lines {
+        let _ = writeln!(
+            sheet,
+            "body:has(#show-{k}:checked) #line-{k} {{ display: block }}"
+        );
+    }
+    sheet.push_str("body:has(#show-all:checked) .line { display: block }\n}\n");
+    page.style(&sheet).close().row_end();
+}
+
+/// The patterns of the parts that aren't paid, which every drawing of the page refers to.
+fn hatches(page: &mut Markup) {
+    page.open("svg width=\"0\" height=\"0\" class=\"patterns\" aria-hidden=\"true\"");
+    page.open("defs");
+    let size = "width=\"6\" height=\"6\" patternUnits=\"userSpaceOnUse\"";
+    page.open(&format!("pattern id=\"hedged\" {size}"));
+    page.empty("path class=\"hatch\" d=\"M-1 1l2 -2M0 6l6 -6M5 7l2 -2\"");
+    page.close();
+    page.open(&format!("pattern id=\"not-accredited\" {size}"));
+    page.empty("path class=\"hatch\" d=\"M0 0l6 6M0 6l6 -6\"");
+    page.close();
+    page.close().close().row_end();
+}
+
+/// Clawback, cap and units.
+fn about(drawn: &Drawn) -> String {
+    let market = &drawn.day.market;
+    let clawback = if market.clawback { "on" } else { "off" };
+    let marked = (0..SCHEDULES).filter(|&s| market.marks[s]);
+    let marked: Vec<String> = marked.map(|s| (s + 1).to_string()).collect();
+    let cap = dollars(i64::from(market.cap), PRICE_PLACES, 2);
+    let cap = match &marked[..] {
+        [] => "No schedule is capped.".to_string(),
+        [one] => format!("Schedule {one} is capped at {cap} per GJ (APC)."),
+        several => format!(
+            "Schedules {} are capped at {cap} per GJ (APC).",
+            several.join(", ")
+        ),
+    };
+    let unit = match drawn.energy {
+        Energy::GJ => "GJ (1 GJ is 1,000 MJ)",
+        Energy::MJ => "MJ (1,000 MJ are 1 GJ)",
+    };
+    format!(
+        "{}. Clawback is {clawback}. {cap} Quantities are in {unit}, prices in dollars per GJ, payments in dollars. \
+         Lines and steps are counted from 0, schedules from 1.",
+        counted(drawn.day.lines.len(), "line")
+    )
+}
+
+/// Signs of the bars and of the prices.
+fn legend(page: &mut Markup, drawn: &Drawn) {
+    let bars = vec![
+        ("rect class=\"rise\"", "rise, and what was paid for it"),
+        ("rect class=\"fall\"", "fall, and what was taken back"),
+        ("rect class=\"free\"", "rise or fall with a payment of 0"),
+        ("rect class=\"hedged\"", "hedged: not paid"),
+        ("rect class=\"not-accredited\"", "not accredited: not paid"),
+    ];
+    let mut prices = vec![
+        ("path class=\"price\"", "price of a step"),
+        (
+            "path class=\"price missing\"",
+            "price past the bid's last step (flag 1)",
+        ),
+        ("path class=\"market\"", "market price"),
+    ];
+    if drawn.day.market.marks.contains(&true) {
+        prices.push(("path class=\"cap\"", "cap (APC)"));
+        prices.push(("path class=\"uncapped\"", "price before the cap"));
+    }
+    prices.push((
+        "rect class=\"on\"",
+        "constrained on, from price to market price",
+    ));
+    prices.push(("rect class=\"free\"", "the same, rate 0 or not paid"));
+    for entries in [bars, prices] {
+        page.open("ul class=\"legend\"");
+        for (sign, words) in entries {
+            page.open("li");
+            page.open("svg width=\"26\" height=\"12\" aria-hidden=\"true\"");
+            match sign.starts_with("rect ") {
+                true => page.empty(&format!(
+                    "{sign} x=\"1\" y=\"1\" width=\"24\" height=\"10\""
+                )),
+                false => page.empty(&format!("{sign} d=\"M0 6h26\"")),
+            };
+            page.close().words(" ").words(words).close();
+        }
+        page.close().row_end();
+    }
+}
+
+fn put_line(page: &mut Markup, drawn: &Drawn, k: usize, line: &Line) {
+    page.open(&format!(
+        "section class=\"line\" id=\"line-{k}\" aria-labelledby=\"name-{k}\""
+    ));
+    let entry = &line.entry;
+    let heading = format!(
+        "Line {k}: participant {}, point {}, {}",
+        entry.participant,
+        entry.point,
+        side_name(entry.side)
+    );
+    page.element(&format!("h2 id=\"name-{k}\""), &heading);
+    page.element("p", &line_words(drawn, line)).row_end();
+    changes::put(page, drawn, k, line);
+    prices::put(page, drawn, k, line);
+    page.close().row_end();
+}
+
+fn line_words(drawn: &Drawn, line: &Line) -> String {
+    let accredited = match line.accredited {
+        true => "Accredited.",
+        false => "Not accredited, so no step is paid.",
+    };
+    let hedge = match line.hedge {
+        0 => "No hedge.".to_string(),
+        hedge => format!(
+            "Hedged up to {} {}.",
+            drawn.energy.write(i64::from(hedge)),
+            drawn.energy.name()
+        ),
+    };
+    let steps = counted(line.steps.len(), "step");
+    format!("{accredited} {hedge} {steps}.")
+}
+
+fn footer(page: &mut Markup) {
+    page.open("footer").open("p");
+    page.words("Every figure is the proved settling's, step view's or cutter's, of mewikofu ");
+    page.words(env!("CARGO_PKG_VERSION"));
+    page.words("; the steps' payments were added up and are the book's. ");
+    page.element("code", "mewikofu explain DAY --line K");
+    page.words(" says why each payment is what it is.");
+    page.close().close().row_end();
+}
+
+fn side_name(side: Side) -> &'static str {
+    match side {
+        Side::Injection => "injection",
+        Side::Withdrawal => "withdrawal",
+    }
+}
+
+/// Why a step isn't paid.
+#[derive(Clone, Copy)]
+enum Unpaid {
+    NotAccredited,
+    Hedged,
+}
+
+impl Unpaid {
+    /// None where the step is paid.
+    fn new(line: &Line, step: &View) -> Option<Unpaid> {
+        match (line.accredited, line.is_hedged(step)) {
+            (false, _) => Some(Unpaid::NotAccredited),
+            (true, true) => Some(Unpaid::Hedged),
+            (true, false) => None,
+        }
+    }
+
+    fn words(self) -> &'static str {
+        match self {
+            Unpaid::NotAccredited => "not accredited",
+            Unpaid::Hedged => "hedged",
+        }
+    }
+
+    /// The class of its hatched parts.
+    fn class(self) -> &'static str {
+        match self {
+            Unpaid::NotAccredited => "not-accredited",
+            Unpaid::Hedged => "hedged",
+        }
+    }
+}
+
+/// Decimals with which all these amounts are written exactly, at least 2.
+fn decimals(amounts: impl Iterator<Item = i64>) -> usize {
+    let needed = |amount: i64| {
+        let text = dollars(amount, MONEY_PLACES, 0);
+        text.split_once('.').map_or(0, |(_, part)| part.len())
+    };
+    amounts.map(needed).fold(2, usize::max)
+}
+
+/// A cell with money, faint where it is 0.
+fn put_money(page: &mut Markup, amount: i64, decimals: usize) {
+    let tag = if amount == 0 {
+        "td class=\"nil\""
+    } else {
+        "td"
+    };
+    page.element(tag, &dollars(amount, MONEY_PLACES, decimals));
 }

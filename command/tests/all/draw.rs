@@ -1,384 +1,699 @@
-//! The drawn page.
+//! The drawn page. Expected figures are the kept reports' and the reference implementation's.
 
-use crate::svg::{elements, room, Element, Room};
-use crate::{run, stored};
-use mewikofu_command::draw::draw;
+use crate::draw_page::{points, read, Element};
+use crate::{run, run_with, stored};
+use mewikofu_command::draw::page;
 use mewikofu_command::figures::Figures;
 use mewikofu_command::make::make;
+use mewikofu_command::outcome::Status;
 use reference::generate::{small_day, valid_day};
-use reference::layout::{word, SCHEDULES};
-use reference::view::{view, View};
+use reference::layout::{signed, word, SCHEDULES};
+use reference::view::{DayView, View};
+use std::collections::BTreeSet;
 
-/// Colours of the bars, as the page's legend has them.
-const TOTAL: &str = "#2b6cb0";
-const ADJUSTED: &str = "#dd8a1d";
-const CONSTRAINED: &str = "#2f9e6b";
+pub const EXAMPLES: [&str; 5] = ["k10", "both-sides", "withdrawals", "rules", "winter"];
 
-fn drawn(day: &[u8], line: u64) -> String {
-    draw(&Figures::new(day).unwrap(), line as usize).unwrap()
-}
-
-fn page(day: &[u8], line: u64) -> Vec<Element> {
-    elements(&drawn(day, line))
-}
-
-fn texts(page: &[Element]) -> Vec<&str> {
-    let texts = page.iter().filter(|element| element.name == "text");
-    texts.map(|element| element.text.as_str()).collect()
-}
-
-/// Whole bars of a colour, without the legend's sign, which comes first.
-fn bars<'a>(page: &'a [Element], colour: &str) -> Vec<&'a Element> {
-    let of_colour = |element: &&Element| {
-        element.attribute("fill") == colour && element.attribute("fill-opacity") == "1"
-    };
-    page.iter().filter(of_colour).skip(1).collect()
-}
-
-fn example(name: &str) -> Vec<u8> {
+pub fn example(name: &str) -> Vec<u8> {
     stored(&format!("examples/{name}.day"))
 }
 
-/// Totals, adjusted totals and the line's payments of the kept reports, 1 being $0.0000001.
-#[test]
-fn amounts() {
-    let withdrawals = page(&example("withdrawals"), 1);
-    let both_sides = page(&example("both-sides"), 4);
-    let cases = [
-        (
-            &withdrawals,
-            "total t, $",
-            "$0.2731130 $0.0325035 -$0.2352291 $0.0597141 -$0.0755925",
-        ),
-        (
-            &withdrawals,
-            "adjusted total a, $",
-            "$0.0545090 $0.0000000 $0.0000000 $0.0000000 $0.0000000",
-        ),
-        (
-            &withdrawals,
-            "payment, $",
-            "$0.0000000 -$0.2368084 $0.0000000 $0.5109957 -$0.0755925",
-        ),
-        (
-            &both_sides,
-            "total t, $",
-            "$0.0004137 -$0.0007680 $0.0000000 $0.0085799 -$0.0017240",
-        ),
-        (
-            &both_sides,
-            "adjusted total a, $",
-            "$0.0000000 -$0.0003543 $0.0000000 $0.0068559 $0.0000000",
-        ),
-        (
-            &both_sides,
-            "payment, $",
-            "$0.0003405 -$0.0007680 $0.0000000 $0.0025310 -$0.0011214",
-        ),
-    ];
-    for (page, heading, amounts) in cases {
-        let texts = texts(page);
-        let row = texts.iter().position(|text| *text == heading).unwrap();
-        let shown = texts[row + 1..][..SCHEDULES].join(" ");
-        assert_eq!(shown, amounts, "{heading}");
-    }
+pub fn drawn(day: &[u8], line: usize) -> String {
+    page("a day", day, &Figures::new(day).unwrap(), line).unwrap()
 }
 
-/// Every step's row: its end, then price and quantity constrained on by schedule.
-#[test]
-fn steps() {
-    let day = example("both-sides");
-    for line in 0..6 {
-        let page = page(&day, line);
-        let texts = texts(&page);
-        let cells: Vec<&str> = texts.into_iter().filter(|text| *text != "*").collect();
-        let first = cells.iter().rposition(|text| *text == "on, MJ").unwrap() + 1;
-        let rows: Vec<&[&str]> = cells[first..cells.len() - 1].chunks(12).collect();
-        for (k, row) in rows.iter().enumerate() {
-            let step = view(&day, line, k as u64);
-            let heading = [k.to_string(), step.upper.to_string()];
-            let price = |s: usize| format!("$0.{:04}", step.price[s]);
-            let on = |s: usize| step.constrained_on[s].to_string();
-            let values = (0..SCHEDULES).flat_map(|s| [price(s), on(s)]);
-            assert!(row.iter().copied().eq(heading.into_iter().chain(values)));
-        }
-        assert_eq!(view(&day, line, rows.len() as u64).number, 17);
-    }
+/// Example days, and generated ones.
+fn days(count: u64) -> Vec<Vec<u8>> {
+    let examples = EXAMPLES.iter().map(|name| example(name));
+    let generated = (0..count).flat_map(|seed| [valid_day(seed), small_day(seed)]);
+    examples
+        .chain([far_above(), far_below()])
+        .chain(generated)
+        .collect()
 }
 
-/// A bar is as high as its amount, above or below one line.
-#[test]
-fn bars_of_totals() {
-    let page = page(&example("withdrawals"), 0);
-    let totals: [i32; 5] = [2731130, 325035, -2352291, 597141, -755925];
-    let adjusted = [545090, 0, 0, 0, 0];
-    let bars = [bars(&page, TOTAL), bars(&page, ADJUSTED)].concat();
-    let zero = bars[0].number("y") + bars[0].number("height");
-    let scale = bars[0].number("height") / f64::from(totals[0]);
-    assert_eq!(bars.len(), 10);
-    for (bar, amount) in bars.iter().zip(totals.into_iter().chain(adjusted)) {
-        let (y, height) = (bar.number("y"), bar.number("height"));
-        let expected = scale * f64::from(amount.abs());
-        assert!((height - expected).abs() < 0.2, "{amount}");
-        let from_zero = if amount < 0 { y } else { y + height };
-        assert!((from_zero - zero).abs() < 0.2, "{amount}");
-    }
+/// The winter day with a bid of $800.
+pub fn far_above() -> Vec<u8> {
+    let text = String::from_utf8(stored("examples/winter.day.txt")).unwrap();
+    make(text.replace("@$45.00", "@$800.00").as_bytes()).unwrap()
 }
 
-/// One bar for each step and schedule with a quantity constrained on, as high as that quantity.
-#[test]
-fn bars_of_constrained_on() {
-    let day = example("both-sides");
-    for line in 0..6 {
-        let page = page(&day, line);
-        let steps: Vec<_> = (0..)
-            .map(|k| view(&day, line, k))
-            .take_while(|v| v.number == 0)
-            .collect();
-        let on = (0..SCHEDULES).flat_map(|s| steps.iter().map(move |step| step.constrained_on[s]));
-        let on: Vec<u32> = on.filter(|&quantity| quantity > 0).collect();
-        let bars = bars(&page, CONSTRAINED);
-        assert_eq!(bars.len(), on.len());
-        let most = on.iter().copied().max().unwrap_or(0);
-        let highest = bars
+/// A market price of $800, and bids of $5 and $8 besides those near it.
+pub fn far_below() -> Vec<u8> {
+    let text = "[market]\nprice = $800 $802 $800 $800 $805\ncapped = no no no yes no\napc = $807\nclawback = no\n\
+        [line]\nparticipant = 1\npoint = 1\nside = INJ\naccredited = yes\nhedge = 0\n\
+        bid 1..4 = 1000@$5 2000@$8 5000@$810\nbid 5 = 2000@$5 4000@$809.5\npricing 1 = 2000 0 0 0 0\n\
+        pricing 2 = 0 0 0 0\npricing 3 = 0 0 0\npricing 4 = 0 0\npricing 5 = 0\n\
+        operating 1..5 = 4500 0 0 0 0\nactual = 4500 0 0 0 0\n";
+    make(text.as_bytes()).unwrap()
+}
+
+fn lines_of(day: &[u8]) -> usize {
+    word(day, 0) as usize
+}
+
+/// Each line's steps.
+fn steps_of(day: &[u8]) -> Vec<Vec<View>> {
+    let views = DayView::new(day);
+    views
+        .day
+        .lines()
+        .map(|line| views.line(line).collect())
+        .collect()
+}
+
+/// A word of a line: 2 side, 3 accreditation, 4 hedge.
+fn line_word(day: &[u8], line: usize, place: usize) -> u32 {
+    word(&day[64 + 660 * line..], place)
+}
+
+/// Whole units of a decimal number with commas, and perhaps $ and a sign, that has so many places.
+fn units(text: &str, places: usize) -> i64 {
+    let (sign, text) = match text.strip_prefix('-') {
+        Some(text) => (-1, text),
+        None => (1, text.strip_prefix('+').unwrap_or(text)),
+    };
+    let text = text.strip_prefix('$').unwrap_or(text);
+    let (whole, decimals) = text.split_once('.').unwrap_or((text, ""));
+    let groups: Vec<&str> = whole.split(',').collect();
+    let is_grouped = groups[1..].iter().all(|group| group.len() == 3) && groups[0].len() <= 3;
+    assert!(is_grouped && decimals.len() <= places, "{text}");
+    sign * format!("{}{decimals:0<places$}", groups.concat())
+        .parse::<i64>()
+        .unwrap()
+}
+
+fn money(text: &str) -> i64 {
+    assert!(text.trim_start_matches('-').starts_with('$'), "{text}");
+    units(text, 7)
+}
+
+/// The report of a day as the table has it: rows of participant, point, side, steps and payments, then totals and adjusted totals.
+type Report = (Vec<([u32; 4], Vec<i64>)>, Vec<i64>, Vec<i64>);
+
+fn shown(page: &Element) -> Report {
+    let table = page.of_class("lines")[0];
+    let payments = |cells: &[String]| {
+        let amounts: Vec<i64> = cells.iter().map(|text| money(text)).collect();
+        let (sum, amounts) = amounts.split_last().unwrap();
+        assert_eq!((amounts.len(), *sum), (SCHEDULES, amounts.iter().sum()));
+        amounts.to_vec()
+    };
+    let rows = table.rows("tbody").into_iter().enumerate().map(|(k, row)| {
+        assert_eq!(row[0], k.to_string());
+        let side = ["injection", "withdrawal"]
             .iter()
-            .map(|bar| bar.number("height"))
-            .fold(0.0, f64::max);
-        for (bar, &quantity) in bars.iter().zip(&on) {
-            let expected = highest * f64::from(quantity) / f64::from(most);
-            assert!((bar.number("height") - expected).abs() < 0.2);
-        }
-    }
-}
-
-/// The plots of one schedule: places of prices, from the labels at the left, and of quantities along the steps.
-struct Plot {
-    left: f64,
-    /// From MJ to places on the page.
-    along: f64,
-    /// Place of the price 0, and from price units to places.
-    zero: f64,
-    scale: f64,
-    /// Upper and lower end of the prices' plot.
-    top: f64,
-    bottom: f64,
-}
-
-impl Plot {
-    /// None where the prices' axis has one label only.
-    fn new(page: &[Element], s: usize, end: u32) -> Option<Plot> {
-        let labels = page
-            .iter()
-            .filter(|e| e.name == "text" && e.attribute("x") == "180.0");
-        let labels = labels.filter(|label| label.text.starts_with('$'));
-        let price = |text: &str| text.replace(['$', ','], "").parse::<f64>().unwrap() * 10_000.0;
-        let places = labels.map(|label| (price(&label.text), label.number("y") - 4.0));
-        let places: Vec<(f64, f64)> = places.collect();
-        let (&(low, bottom), &(high, top)) = (places.first()?, places.last()?);
-        let scale = (top - bottom) / (high - low);
-        (places.len() > 1).then_some(Plot {
-            left: 190.0 + 208.0 * s as f64,
-            along: 182.0 / f64::from(end),
-            zero: bottom - low * scale,
-            scale,
-            top,
-            bottom,
-        })
-    }
-
-    fn x(&self, quantity: u32) -> f64 {
-        self.left + self.along * f64::from(quantity)
-    }
-
-    fn y(&self, price: u32) -> f64 {
-        self.zero + self.scale * f64::from(price)
-    }
-
-    /// Whether an element with these attributes begins within the prices' plot.
-    fn has(&self, element: &Element, x: &str, y: &str) -> bool {
-        let (x, y) = (element.number(x), element.number(y));
-        let across = x > self.left - 0.2 && x < self.left + 182.2;
-        across && y > self.top - 0.2 && y < self.bottom + 0.2
-    }
-
-    /// Lines of a colour and width: both ends of each.
-    fn lines(&self, page: &[Element], colour: &str, width: &str) -> Vec<[f64; 4]> {
-        let lines = page
-            .iter()
-            .filter(|e| e.name == "line" && self.has(e, "x1", "y1"));
-        let lines = lines.filter(|e| e.attribute("stroke") == colour);
-        let lines = lines.filter(|e| e.attribute("stroke-width") == width);
-        lines
-            .map(|e| ["x1", "y1", "x2", "y2"].map(|name| e.number(name)))
-            .collect()
-    }
-
-    /// Rectangles of a colour: left, top, right and bottom of each.
-    fn areas(&self, page: &[Element], colour: &str) -> Vec<[f64; 4]> {
-        let of_colour = |e: &&Element| e.name == "rect" && e.attribute("fill") == colour;
-        let areas = page
-            .iter()
-            .filter(of_colour)
-            .filter(|e| !e.attribute("x").is_empty());
-        let areas = areas.filter(|e| self.has(e, "x", "y"));
-        let area = |e: &Element| {
-            let [x, y, width, height] = ["x", "y", "width", "height"].map(|name| e.number(name));
-            [x, y, x + width, y + height]
-        };
-        areas.map(area).collect()
-    }
-}
-
-/// The same places, but for rounding.
-fn same(shown: &[[f64; 4]], expected: &[[f64; 4]]) {
-    assert_eq!(shown.len(), expected.len());
-    for (one, other) in shown.iter().flatten().zip(expected.iter().flatten()) {
-        assert!((one - other).abs() < 0.3, "{shown:?} for {expected:?}");
-    }
-}
-
-/// Market price, step prices, what is constrained on and the hedge stand where they should.
-#[test]
-fn plots() {
-    let (mut at_rate, mut at_no_rate, mut hedged) = (0, 0, 0);
-    for seed in 0..120 {
-        let day = small_day(seed);
-        let page = page(&day, 0);
-        let steps = (0..).map(|k| view(&day, 0, k));
-        let steps: Vec<View> = steps.take_while(|step| step.number == 0).collect();
-        let end = steps[steps.len() - 1].upper;
-        let (side, hedge) = (word(&day[64..], 2), word(&day[64..], 4));
-        for s in 0..SCHEDULES {
-            let Some(plot) = Plot::new(&page, s, end) else {
-                continue;
-            };
-            let market = word(&day, 4 + s);
-            let across = [plot.x(0), plot.y(market), plot.x(end), plot.y(market)];
-            same(&plot.lines(&page, "#c53030", "1.5"), &[across]);
-            let prices = steps.iter().map(|step| {
-                let y = plot.y(step.price[s]);
-                [plot.x(step.upper - step.width), y, plot.x(step.upper), y]
-            });
-            same(
-                &plot.lines(&page, "#1a202c", "2"),
-                &prices.collect::<Vec<_>>(),
-            );
-            let (mut green, mut violet) = (Vec::new(), Vec::new());
-            for step in steps.iter().filter(|step| step.constrained_on[s] > 0) {
-                let from = step.upper - step.width + step.msiq[s];
-                let (price, market) = (step.price[s], market);
-                let (above, below) = (price.max(market), price.min(market));
-                let right = plot.x(from + step.constrained_on[s]);
-                let area = [plot.x(from), plot.y(above), right, plot.y(below)];
-                let paid = if side == 0 {
-                    price > market
-                } else {
-                    price < market
-                };
-                if paid { &mut green } else { &mut violet }.push(area);
-            }
-            same(&plot.areas(&page, CONSTRAINED), &green);
-            same(&plot.areas(&page, "#b794f4"), &violet);
-            let behind = [plot.x(0), plot.top, plot.x(hedge), plot.bottom];
-            same(&plot.areas(&page, "#9ca3af"), &[behind]);
-            at_rate += green.len();
-            at_no_rate += violet.len();
-            hedged += usize::from(hedge > 0);
-        }
-    }
-    assert!(at_rate > 50 && at_no_rate > 50 && hedged > 50);
-}
-
-/// No text lies over another or leaves the page.
-fn check_texts(page: &[Element]) {
-    let width = page[0].number("width");
-    let height = page[0].number("height");
-    let texts = page.iter().filter(|element| element.name == "text");
-    let rooms: Vec<Room> = texts.map(room).collect();
-    for (k, one) in rooms.iter().enumerate() {
-        let inside = one.left >= 0.0 && one.right <= width && one.bottom <= height;
-        assert!(inside, "'{}' leaves the page", one.text);
-        for other in &rooms[..k] {
-            let (one, other, over) = (&one.text, &other.text, one.overlaps(other));
-            assert!(!over, "'{one}' lies over '{other}'");
-        }
-    }
-}
-
-#[test]
-fn texts_stand_free() {
-    for seed in 0..200 {
-        let day = valid_day(seed);
-        let lines = u64::from(word(&day, 0));
-        check_texts(&page(&day, seed % lines));
-        check_texts(&page(&day, lines - 1));
-    }
-}
-
-/// A day with the greatest quantities and prices on 64 lines, and one of zeros.
-#[test]
-fn greatest_and_zero() {
-    let large = page(
-        &make(large_text(64, 200_000_000, 10_000_000).as_bytes()).unwrap(),
-        63,
+            .position(|name| *name == row[3]);
+        let number = |text: &String| text.parse().unwrap();
+        let key = [
+            number(&row[1]),
+            number(&row[2]),
+            side.unwrap() as u32,
+            number(&row[4]),
+        ];
+        (key, payments(&row[5..]))
+    });
+    let rows = rows.collect();
+    let below = table.rows("tfoot");
+    assert_eq!(
+        (below[0][0].as_str(), below[1][0].as_str()),
+        ("Total", "Adjusted total")
     );
-    check_texts(&large);
-    assert!(texts(&large).contains(&"$12,800,000,000.00"));
-    let zero = page(&make(large_text(1, 1, 0).as_bytes()).unwrap(), 0);
-    check_texts(&zero);
-    assert!(texts(&zero).contains(&"all totals are 0"));
-    assert!(bars(&zero, TOTAL)
-        .iter()
-        .all(|bar| bar.number("height") == 0.0));
+    (rows, payments(&below[0][1..]), payments(&below[1][1..]))
 }
 
-/// Lines that are constrained on in all of schedule 1 at the whole price.
-fn large_text(lines: usize, quantity: u32, price: u32) -> String {
-    let market = "[market]\nprice = 0 0 0 0 0\ncapped = no no no no no\napc = 0\nclawback = no\n";
-    let line = |k| {
-        format!(
-            "[line]\nparticipant = {}\npoint = 4294967295\nside = INJ\naccredited = yes\nhedge = 0
-bid 1..5 = {quantity}@{price}\npricing 1 = 0 0 0 0 0\npricing 2 = 0 0 0 0\npricing 3 = 0 0 0
-pricing 4 = 0 0\npricing 5 = 0\noperating 1..5 = {quantity} 0 0 0 0\nactual = {quantity} 0 0 0 0\n",
-            u32::MAX - k as u32
+/// From the reference's book.
+fn settled(day: &[u8]) -> Report {
+    let mut book = vec![0; 96 + 56 * 64];
+    assert_eq!(reference::settle::settle(day, &mut book), 0);
+    let row = |k: usize| {
+        let at = 96 + 56 * k;
+        let key = std::array::from_fn(|place| word(&book[at..], place));
+        (
+            key,
+            (0..SCHEDULES)
+                .map(|s| signed(&book, at + 16 + 8 * s))
+                .collect(),
         )
     };
-    (0..lines).fold(market.to_string(), |text, k| text + &line(k))
+    let pair = |offset: usize| {
+        (0..SCHEDULES)
+            .map(|s| signed(&book, 16 + 16 * s + offset))
+            .collect()
+    };
+    ((0..lines_of(day)).map(row).collect(), pair(0), pair(8))
 }
 
-/// Axes and legend are named with their units.
 #[test]
-fn names() {
-    let page = page(&example("both-sides"), 4);
-    let texts = texts(&page);
-    for name in [
-        "Gas day of 6 lines",
-        "Clawback is on. No schedule is capped.",
-        "Totals of all lines ($)",
-        "Line 4: participant 3, point 1, INJ, accredited, no hedge, 5 steps",
-        "total t",
-        "adjusted total a",
-        "step price",
-        "market price",
-        "quantity constrained on",
-        "price",
-        "$/GJ",
-        "on, MJ",
-        "market price, $/GJ",
-        "schedule 5",
-    ] {
-        assert!(texts.contains(&name), "{name}");
+fn payments_are_the_books() {
+    for day in days(60) {
+        assert_eq!(shown(&read(&drawn(&day, 0))), settled(&day));
     }
-    let large = large_text(1, 200_000_000, 5);
-    let page = crate::draw::page(&make(large.as_bytes()).unwrap(), 0);
-    assert!(crate::draw::texts(&page).contains(&"on, GJ"));
 }
 
-/// The picture kept in docs.
+/// Those of the days worked out by hand, and of the other kept reports.
 #[test]
-fn kept_picture() {
-    let page = run(&["draw", "--line", "4"], &example("both-sides")).output();
-    assert!(stored("docs/day.svg") == page);
-    let first = run(&["draw"], &example("k10")).text();
-    assert_eq!(first, drawn(&example("k10"), 0));
+fn payments_are_the_kept_reports() {
+    for name in EXAMPLES {
+        let page = read(&run(&["draw"], &example(name)).text());
+        let (rows, totals, adjusted) = shown(&page);
+        let mut report = format!("day {}\n", rows.len());
+        let numbers = |amounts: &[i64]| {
+            amounts
+                .iter()
+                .map(|amount| format!(" {amount}"))
+                .collect::<String>()
+        };
+        for ([participant, point, side, steps], amounts) in &rows {
+            let side = ["INJ", "WDR"][*side as usize];
+            report += &format!("{participant} {point} {side} {steps}{}\n", numbers(amounts));
+        }
+        report += &format!(
+            "total{}\nadjusted{}\n",
+            numbers(&totals),
+            numbers(&adjusted)
+        );
+        let kept = String::from_utf8(stored(&format!("examples/{name}.report"))).unwrap();
+        assert_eq!(report, kept, "{name}");
+    }
+}
+
+/// Hatched where the line isn't accredited or the step ends at or below the hedge.
+fn expected_hatch(day: &[u8], line: usize, step: &View) -> Option<&'static str> {
+    match (
+        line_word(day, line, 3),
+        step.upper <= line_word(day, line, 4),
+    ) {
+        (0, _) => Some("not-accredited"),
+        (_, true) => Some("hedged"),
+        _ => None,
+    }
+}
+
+/// MJ of a place in the page's unit, which is 3 for GJ and 0 for MJ.
+fn unit_places(page: &Element) -> usize {
+    match page.whole_text().contains("Quantities are in GJ") {
+        true => 3,
+        false => 0,
+    }
+}
+
+/// Each step's row: quantity, status, changes and payments; a bar for each change, hatched exactly on the steps that aren't paid.
+#[test]
+fn rises_and_falls() {
+    let mut classes: Vec<String> = Vec::new();
+    for day in days(25) {
+        let page = read(&drawn(&day, 0));
+        let places = unit_places(&page);
+        for (line, steps) in steps_of(&day).into_iter().enumerate() {
+            let table = page.by_id(&format!("line-{line}")).of_class("changes")[0];
+            let body = table.named("tbody")[0];
+            assert_eq!(body.children.len(), steps.len());
+            let change = |step: &View, s: usize| {
+                let before = if s == 0 {
+                    0
+                } else {
+                    step.constrained_on[s - 1]
+                };
+                i64::from(step.constrained_on[s]) - i64::from(before)
+            };
+            let changes = steps
+                .iter()
+                .flat_map(|step| (0..SCHEDULES).map(move |s| change(step, s)));
+            let longest = changes.map(i64::abs).max().unwrap();
+            let mut sums = [[0; SCHEDULES]; 3];
+            for (j, (row, step)) in body.children.iter().zip(&steps).enumerate() {
+                let cells: Vec<String> = row.children.iter().map(Element::whole_text).collect();
+                assert_eq!(cells[0], j.to_string());
+                let (from, to) = cells[1].split_once(" to ").unwrap();
+                assert_eq!(units(from, places), i64::from(step.upper - step.width));
+                assert_eq!(units(to, places), i64::from(step.upper));
+                let hatch = expected_hatch(&day, line, step);
+                assert_eq!(
+                    cells[2],
+                    hatch.map_or("paid".into(), |hatch| hatch.replace('-', " "))
+                );
+                assert_eq!(cells.len(), 3 + 2 * SCHEDULES);
+                for s in 0..SCHEDULES {
+                    let (cell, paid) = (&row.children[3 + 2 * s], &cells[4 + 2 * s]);
+                    let change = change(step, s);
+                    let bars = cell.named("path");
+                    if change == 0 {
+                        assert_eq!(
+                            (cells[3 + 2 * s].as_str(), paid.as_str(), bars.len()),
+                            ("", "", 0)
+                        );
+                        assert_eq!(step.finals[s], 0);
+                        continue;
+                    }
+                    let text = &cells[3 + 2 * s];
+                    assert!(text.starts_with(if change > 0 { '+' } else { '-' }));
+                    assert_eq!((units(text, places), money(paid)), (change, step.finals[s]));
+                    let [bar] = bars[..] else { panic!("one bar") };
+                    let class = match (hatch, step.finals[s]) {
+                        (Some(hatch), _) => hatch,
+                        (None, 0) => "free",
+                        (None, amount) if amount > 0 => "rise",
+                        _ => "fall",
+                    };
+                    assert_eq!(bar.attribute("class"), class);
+                    classes.push(class.to_string());
+                    let length = points(bar.attribute("d"))[0][1].0;
+                    let expected = 36.0 * change as f64 / longest as f64;
+                    assert!(
+                        (length - expected).abs() <= 1.0 && length.signum() == expected.signum()
+                    );
+                    sums[usize::from(step.finals[s] < 0)][s] += step.finals[s];
+                    sums[2][s] += step.finals[s];
+                }
+            }
+            let below = table.rows("tfoot");
+            for (k, name) in ["Paid", "Taken back", "Payment of the line"]
+                .iter()
+                .enumerate()
+            {
+                assert_eq!(below[k][0], *name);
+                let amounts: Vec<i64> = (0..SCHEDULES)
+                    .map(|s| money(&below[k][2 + 2 * s]))
+                    .collect();
+                assert_eq!(amounts, sums[k]);
+            }
+        }
+    }
+    for class in ["rise", "fall", "free", "hedged", "not-accredited"] {
+        assert!(
+            classes.iter().filter(|own| *own == class).count() > 50,
+            "{class}"
+        );
+    }
+}
+
+/// Left end of a plot, and its width.
+const LEFT: f64 = 92.0;
+const PITCH: f64 = 222.0;
+const PLOT: f64 = 198.0;
+
+/// Places of prices, read off the labels of the axis.
+struct PriceAxis {
+    low: f64,
+    high: f64,
+    at_low: f64,
+    at_high: f64,
+}
+
+impl PriceAxis {
+    fn new(plots: &Element) -> PriceAxis {
+        // The marked prices come first, from below; then labels of far prices.
+        let labels = plots.named("text").into_iter();
+        let labels =
+            labels.filter(|label| label.attribute("x") == "84" && label.text.starts_with('$'));
+        let places = labels.map(|label| (units(&label.text, 4) as f64, label.number("y") - 4.0));
+        let places: Vec<(f64, f64)> = places.collect();
+        let grid = points(plots.of_class("grid")[0].attribute("d"));
+        let (first, last) = (places[0], places[grid.len() - 1]);
+        assert!(grid.len() >= 2);
+        for (line, place) in grid.iter().zip(&places) {
+            assert!((line[0].1 - place.1).abs() < 0.2);
+        }
+        PriceAxis {
+            low: first.0,
+            high: last.0,
+            at_low: first.1,
+            at_high: last.1,
+        }
+    }
+
+    /// Far prices stand beyond the ends.
+    fn fits(&self, price: u32, y: f64) -> bool {
+        let price = f64::from(price);
+        if price > self.high {
+            return y < self.at_high - 10.0;
+        }
+        if price < self.low {
+            return y > self.at_low + 10.0;
+        }
+        let part = (price - self.low) / (self.high - self.low);
+        (self.at_low + (self.at_high - self.at_low) * part - y).abs() < 0.3
+    }
+}
+
+/// In each schedule's plot: step prices, market price, cap where it applies, hatched exactly the steps that aren't paid, and what is constrained on.
+#[test]
+fn price_plots() {
+    let (mut hatched, mut filled, mut outlined, mut capped, mut broken, mut cut_down) =
+        (0, 0, 0, 0, 0, 0);
+    for day in days(25) {
+        let page = read(&drawn(&day, 0));
+        for (line, steps) in steps_of(&day).into_iter().enumerate() {
+            let plots = page.by_id(&format!("line-{line}")).of_class("prices")[0];
+            let axis = PriceAxis::new(plots);
+            let end = f64::from(steps[steps.len() - 1].upper);
+            let groups = plots.named("g");
+            assert_eq!(groups.len(), SCHEDULES);
+            for (s, plot) in groups.iter().enumerate() {
+                let left = LEFT + PITCH * s as f64;
+                let x = |quantity: u32| left + PLOT * f64::from(quantity) / end;
+                let near = |one: f64, other: f64| (one - other).abs() < 0.2;
+                let d = |class: &str| {
+                    let found = plot.of_class(class);
+                    assert!(found.len() <= 1, "{class}");
+                    found
+                        .first()
+                        .map_or(Vec::new(), |one| points(one.attribute("d")))
+                };
+                let across = |class: &str, price: u32| {
+                    let line = d(class);
+                    assert!(near(line[0][0].0, left) && near(line[0][1].0, left + PLOT));
+                    assert!(axis.fits(price, line[0][0].1), "{class}");
+                };
+                let market = word(&day, 4 + s);
+                across("market", market);
+                match word(&day, 9 + s) {
+                    0 => assert!(
+                        plot.of_class("cap").is_empty() && plot.of_class("uncapped").is_empty()
+                    ),
+                    _ => {
+                        across("cap", word(&day, 14));
+                        capped += 1;
+                        cut_down += d("uncapped").len();
+                    }
+                }
+                // The horizontal strokes, dashed where the flag is 1.
+                let strokes = |path: &&&Element| {
+                    let lines = points(path.attribute("d"));
+                    let pairs = lines.into_iter().flat_map(|line| {
+                        line.windows(2)
+                            .map(|pair| (pair[0], pair[1]))
+                            .collect::<Vec<_>>()
+                    });
+                    pairs
+                        .filter(|(from, to)| from.1 == to.1)
+                        .collect::<Vec<_>>()
+                };
+                let mut drawn: Vec<_> = Vec::new();
+                for path in plot.of_class("price").iter() {
+                    let missing = u32::from(path.attribute("class").contains("missing"));
+                    drawn.extend(strokes(&path).into_iter().map(|stroke| (stroke, missing)));
+                }
+                drawn.sort_by(|one, other| one.0 .0 .0.total_cmp(&other.0 .0 .0));
+                assert_eq!(drawn.len(), steps.len());
+                for (((from, to), missing), step) in drawn.into_iter().zip(&steps) {
+                    assert_eq!(missing, step.flag[s]);
+                    assert!(near(from.0, x(step.upper - step.width)) && near(to.0, x(step.upper)));
+                    assert!(axis.fits(step.price[s], from.1));
+                }
+                let unpaid: Vec<_> = steps
+                    .iter()
+                    .filter_map(|step| Some((expected_hatch(&day, line, step)?, step.upper)))
+                    .collect();
+                let areas = plot.named("rect");
+                match unpaid.last() {
+                    None => assert!(areas.is_empty()),
+                    Some((class, upper)) => {
+                        assert_eq!((areas.len(), areas[0].attribute("class")), (1, *class));
+                        assert!(near(areas[0].number("x"), left));
+                        assert!(near(
+                            areas[0].number("x") + areas[0].number("width"),
+                            x(*upper)
+                        ));
+                        hatched += 1;
+                    }
+                }
+                let (mut on, mut free) = (Vec::new(), Vec::new());
+                for step in steps.iter().filter(|step| step.constrained_on[s] > 0) {
+                    let beyond = match line_word(&day, line, 2) {
+                        0 => step.price[s] > market,
+                        _ => step.price[s] < market,
+                    };
+                    match beyond && expected_hatch(&day, line, step).is_none() {
+                        true => on.push(step),
+                        false => free.push(step),
+                    }
+                }
+                for (class, expected) in [("on", &on), ("free", &free)] {
+                    let areas = d(class);
+                    assert_eq!(areas.len(), expected.len());
+                    for (area, step) in areas.iter().zip(expected) {
+                        let from = step.upper - step.width + step.msiq[s];
+                        assert!(
+                            near(area[0].0, x(from))
+                                && near(area[1].0, x(from + step.constrained_on[s]))
+                        );
+                        assert!(
+                            axis.fits(step.price[s], area[0].1) && axis.fits(market, area[2].1)
+                        );
+                    }
+                }
+                filled += on.len();
+                outlined += free.len();
+                broken += plot.of_class("break").len();
+            }
+        }
+    }
+    let counts = [hatched, filled, outlined, capped, cut_down];
+    assert!(counts.iter().all(|&count| count > 100), "{counts:?}");
+    assert_eq!(broken, 2 * SCHEDULES);
+}
+
+/// Well-formed, with nothing from outside and no script; ids are there once, and what refers to them finds them.
+#[test]
+fn markup() {
+    for day in days(15) {
+        let last = lines_of(&day) - 1;
+        let text = drawn(&day, last);
+        for outside in [
+            "http:",
+            "https:",
+            "//",
+            "<script",
+            "@import",
+            "src=",
+            "href=",
+            "javascript",
+        ] {
+            assert!(!text.contains(outside), "{outside}");
+        }
+        let page = read(&text);
+        let ids: Vec<&str> = page
+            .all()
+            .iter()
+            .map(|one| one.attribute("id"))
+            .filter(|id| !id.is_empty())
+            .collect();
+        let once: BTreeSet<&str> = ids.iter().copied().collect();
+        assert_eq!(ids.len(), once.len());
+        for one in page.all() {
+            let named = one
+                .attribute("aria-labelledby")
+                .split(' ')
+                .filter(|id| !id.is_empty());
+            named.for_each(|id| assert!(once.contains(id), "{id}"));
+        }
+        for region in page.all() {
+            let named = ["aria-label", "aria-labelledby"].map(|name| region.attribute(name));
+            assert!(region.attribute("role") != "region" || named != ["", ""]);
+        }
+        let sheet = &page.named("style")[0].text;
+        for part in sheet.split("url(#").skip(1) {
+            assert!(once.contains(part.split_once(')').unwrap().0), "{part}");
+        }
+        assert!(page
+            .named("th")
+            .iter()
+            .all(|one| ["col", "row", "colgroup"].contains(&one.attribute("scope"))));
+        assert!(page
+            .named("table")
+            .iter()
+            .all(|table| table.children[0].name == "caption"));
+        for plots in page.of_class("prices") {
+            let names: Vec<&str> = plots
+                .children
+                .iter()
+                .take(2)
+                .map(|one| one.name.as_str())
+                .collect();
+            assert_eq!(
+                (plots.attribute("role"), &names[..]),
+                ("img", &["title", "desc"][..])
+            );
+        }
+        // One line is chosen, the one that was asked for.
+        let chosen: Vec<&str> = page
+            .named("input")
+            .into_iter()
+            .filter(|one| !one.attribute("checked").is_empty())
+            .map(|one| one.attribute("id"))
+            .collect();
+        assert_eq!(chosen, [format!("show-{last}")]);
+        for line in 0..=last {
+            assert!(sheet.contains(&format!(
+                "body:has(#show-{line}:checked) #line-{line} {{ display: block }}"
+            )));
+        }
+    }
+}
+
+/// One unit for the whole page, said in the axes' names.
+#[test]
+fn one_unit() {
+    for (name, unit, other) in [("winter", "GJ", "MJ"), ("both-sides", "MJ", "GJ")] {
+        let page = read(&drawn(&example(name), 0));
+        let names: Vec<String> = page
+            .of_class("name")
+            .iter()
+            .map(|one| one.whole_text())
+            .collect();
+        assert_eq!(
+            names
+                .iter()
+                .filter(|own| **own == format!("quantity along the steps, {unit}"))
+                .count(),
+            names.len() / 2
+        );
+        let headings: Vec<String> = page
+            .named("th")
+            .iter()
+            .map(|one| one.whole_text())
+            .collect();
+        assert!(
+            headings.contains(&format!("Quantity, {unit}"))
+                && headings.contains(&format!("change, {unit}"))
+        );
+        assert!(!headings.iter().any(|text| text.ends_with(other)));
+    }
+}
+
+/// The winter day with a bid of $800: the axis is cut near the market price, and the price stands beyond the mark.
+#[test]
+fn far_price() {
+    let page = read(&drawn(&far_above(), 3));
+    let breaks = |line: &str| page.by_id(line).of_class("break").len();
+    assert_eq!((breaks("line-3"), breaks("line-4")), (SCHEDULES, 0));
+    let plots = page.by_id("line-3").of_class("prices")[0];
+    let labels: Vec<String> = plots
+        .named("text")
+        .iter()
+        .map(|one| one.whole_text())
+        .collect();
+    for label in ["$0.00", "$40.00", "$800.00"] {
+        assert!(labels.contains(&label.to_string()), "{label}");
+    }
+    assert!(!labels.contains(&"$100.00".to_string()));
+    assert!(plots.whole_text().contains("The price axis is cut"));
+    let plain = read(&drawn(&example("winter"), 3));
+    assert!(plain.by_id("line-3").of_class("break").is_empty());
+    let below = read(&drawn(&far_below(), 0));
+    let plots = below.by_id("line-0").of_class("prices")[0];
+    let labels: Vec<String> = plots
+        .named("text")
+        .iter()
+        .map(|one| one.whole_text())
+        .collect();
+    for label in ["$800.00", "$810.00", "$5.00", "to $8.00"] {
+        assert!(labels.contains(&label.to_string()), "{label}");
+    }
+    assert!(!labels.contains(&"$400.00".to_string()));
+}
+
+/// A page that isn't what was settled is not drawn.
+#[test]
+fn only_what_was_settled() {
+    let day = example("winter");
+    type Change = fn(&mut Figures);
+    let changes: [(&str, Change); 6] = [
+        ("line 1, steps in schedule 2: $50,400.0000001 in sum, and the book has $50,400.0000000", |day| {
+            let step = day.lines[1].steps.iter_mut().find(|step| step.finals[1] > 0);
+            step.unwrap().finals[1] += 1;
+        }),
+        ("lines in schedule 4: $107,820.0000001 in sum, and the book has $107,820.0000000", |day| day.lines[3].entry.payments[3] += 1),
+        ("line 3, step 0, schedule 4: $0.0000001 for a change of 1500000 MJ on a step that is not paid", |day| day.lines[3].steps[0].finals[3] += 1),
+        ("line 6, step 1, schedule 3: $0.0000001 for a change of 0 MJ on a step that is paid", |day| day.lines[6].steps[1].finals[2] += 1),
+        ("line 0, ends: the views' aren't the cutter's", |day| day.lines[0].steps[0].end += 1),
+        ("line 4, step 0, schedule 1: the view's price is $34.0001, the cutter's $34.0000", |day| day.lines[4].steps[0].price[0] += 1),
+    ];
+    for (why, change) in changes {
+        let mut figures = Figures::new(&day).unwrap();
+        change(&mut figures);
+        let problem = page("w.day", &day, &figures, 0).unwrap_err();
+        assert_eq!(problem.status, Status::Failed);
+        assert_eq!(
+            problem.message,
+            format!("w.day: the page wouldn't be what was settled, so none is drawn: {why}")
+        );
+    }
+}
+
+#[test]
+fn chosen_line() {
+    let chosen = run(&["draw", "--line", "4"], &example("both-sides")).text();
+    let page = read(&chosen);
+    assert_eq!(page.named("h1")[0].text, "Gas day standard input");
+    assert_eq!(page.by_id("show-4").attribute("checked"), "checked");
+    let message = run(&["draw", "--line", "6"], &example("both-sides")).failure();
+    assert_eq!(
+        message,
+        "refused 16: the day has no line 6: it has 6 lines, counted from 0\n"
+    );
+    let refused = run(&["draw"], &example("refused")).failure();
+    assert!(refused.starts_with("refused 9: "), "{refused}");
+    let path = concat!(env!("CARGO_MANIFEST_DIR"), "/../examples/k10.day");
+    let page = read(&run_with(&["draw", path], &[]).text());
+    assert_eq!(page.named("title")[0].text, "Gas day k10.day");
+}
+
+/// A file's name is escaped.
+#[test]
+fn any_name() {
+    let day = example("k10");
+    let page = read(&page("<b>&amp;\".day", &day, &Figures::new(&day).unwrap(), 0).unwrap());
+    assert_eq!(page.named("h1")[0].text, "Gas day <b>&amp;\".day");
+}
+
+/// 64 lines of 56 or 55 steps that all rise or fall in every schedule, with long numbers.
+pub fn largest_day() -> Vec<u8> {
+    let mut text =
+        "[market]\nprice = 1 1 1 1 1\ncapped = no no no no no\napc = 0\nclawback = yes\n"
+            .to_string();
+    for k in 0..64 {
+        text += &format!(
+            "[line]\nparticipant = {}\npoint = 4294967295\nside = INJ\naccredited = yes\n",
+            u32::MAX - k
+        );
+        text += &format!("hedge = {}\n", if k % 2 == 0 { 100_000_007 } else { 0 });
+        for s in 0..5 {
+            // Each bid has ends of its own; together they go up to 199,999,999.
+            let slot = |j: u32| {
+                format!(
+                    " {}@{}",
+                    199_999_999 - 3_636_361 * (5 * (10 - j) + s),
+                    9_000_007 + 90_001 * j
+                )
+            };
+            text += &format!("bid {} ={}\n", s + 1, (0..11).map(slot).collect::<String>());
+        }
+        for s in 0..5 {
+            let total = if s % 2 == 0 { 199_999_999 } else { 0 };
+            text += &format!(
+                "pricing {} ={}\noperating {} = {total} 0 0 0 0\n",
+                s + 1,
+                " 0".repeat(5 - s),
+                s + 1
+            );
+        }
+        text += "actual = 199999999 0 0 0 0\n";
+    }
+    make(text.as_bytes()).unwrap()
+}
+
+#[test]
+fn size() {
+    let day = largest_day();
+    let text = drawn(&day, 63);
+    let page = read(&text);
+    let bars = page
+        .of_class("changes")
+        .into_iter()
+        .map(|table| table.named("tbody")[0].named("path").len());
+    assert_eq!(bars.sum::<usize>(), 32 * (56 + 55) * SCHEDULES);
+    assert_eq!(shown(&page), settled(&day));
+    assert!(text.len() < 3_000_000, "{}", text.len());
 }

@@ -3,13 +3,14 @@
 mod book;
 mod check;
 mod draw;
+mod draw_browser;
+mod draw_page;
 mod explain;
 mod make;
 mod many;
 mod readme;
 mod show;
 mod status;
-mod svg;
 mod tables;
 mod texts;
 
