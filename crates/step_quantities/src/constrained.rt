@@ -7,15 +7,17 @@ use step_allocation::actual_on;
 use step_allocation::operating_on;
 use step_allocation::pricing_on;
 ghost use mathlib.Core.Path.{_≡_};
-ghost use Prim.Native.Nat.{_-_};
-ghost use Rattle.rules.specs.Fold.{five};
+ghost use Prim.Native.Nat.{_-_, _<_};
+ghost use Rattle.rules.specs.Fold.{five, at};
 ghost use Rattle.rules.specs.Quantities as rule;
 ghost use Rattle.rules.specs.Payments as paper;
 
-fn constrained_in(o: u32, g: u32, q: u32) -> u32
-    ensures { λ r. ⌜ r ≡ o - g - q ⌝ }
+// C of a schedule
+fn constrained_in(o: [u32; 5], g: [u32; 5], q: [u32; 5], s: usize) -> u32
+    requires { ⌜ s < 5 ⌝ }
+    ensures { λ r. ⌜ r ≡ at o s - at g s - at q s ⌝ }
 {
-    saturating_sub(saturating_sub(o, g), q)
+    saturating_sub(saturating_sub(o[s], g[s]), q[s])
 }
 
 // C, from O, AGINO and MSIQ
@@ -23,11 +25,11 @@ pub fn constrained(o: [u32; 5], g: [u32; 5], q: [u32; 5]) -> [u32; 5]
     ensures { λ r. ⌜ r ≡ five (rule.constrained o g q) ⌝ }
 {
     [
-        constrained_in(o[0], g[0], q[0]),
-        constrained_in(o[1], g[1], q[1]),
-        constrained_in(o[2], g[2], q[2]),
-        constrained_in(o[3], g[3], q[3]),
-        constrained_in(o[4], g[4], q[4]),
+        constrained_in(o, g, q, 0),
+        constrained_in(o, g, q, 1),
+        constrained_in(o, g, q, 2),
+        constrained_in(o, g, q, 3),
+        constrained_in(o, g, q, 4),
     ]
 }
 

@@ -9,9 +9,9 @@ returns c =
     let at-start = c .before .before .before .before in
     absurd (c .if1 .taken (omega (
       arith,
-      c .before .sum-of2 .ensures .0,
-      c .before .before .sum-of .ensures .0,
-      c .before .before .before .saturating-sub .ensures,
+      c .before .with-matches .ensures,
+      c .before .before .wide .ensures .0,
+      c .before .before .before .risen-to-second .ensures .0,
       at-start .pre .second,
     )))
 
@@ -20,110 +20,37 @@ returns-2 c =
     let at-start = c .before .before .before .before .before .before .before .before in
     absurd (c .if2 .taken (omega (
       arith,
-      c .before .sum-of4 .ensures .0,
-      c .before .before .sum-of3 .ensures .0,
-      c .before .before .before .saturating-sub2 .ensures,
-      c .before .before .before .before .before .before .before .saturating-sub .ensures,
+      c .before .with-matches2 .ensures,
+      c .before .before .matches-to-third .ensures .0,
+      c .before .before .before .risen-to-third .ensures .0,
       at-start .pre .third,
     )))
 
-add-if3 : tie.Need-add-if3
-add-if3 c =
-    record {
-      fits = omega (
-        arith,
-        c .sum-of7 .ensures .1,
-        c .before .sum-of6 .ensures .1,
-        c .before .before .sum-of5 .ensures .1,
-      );
-    }
-
 returns-3 : tie.Need-returns-3
 returns-3 c =
-    let at-start = c .before .before .before .before .before .before .before .before .before .before .before .before .before in
+    let at-start = c .before .before .before .before .before .before .before .before .before .before .before .before in
     absurd (c .if3 .taken (omega (
       arith,
-      c .before .sum-of7 .ensures .0,
-      c .before .before .sum-of6 .ensures .0,
-      c .before .before .before .sum-of5 .ensures .0,
-      c .before .before .before .before .saturating-sub3 .ensures,
-      c .before .before .before .before .before .before .before .before .saturating-sub2 .ensures,
-      c .before .before .before .before .before .before .before .before .before .before .before .before .saturating-sub .ensures,
+      c .before .with-matches3 .ensures,
+      c .before .before .matches-to-fourth .ensures .0,
+      c .before .before .before .risen-to-fourth .ensures .0,
       at-start .pre .fourth,
     )))
 
-add-risen : tie.Need-add-risen
-add-risen c =
-    record {
-      fits = omega (
-        arith,
-        c .wide .ensures .1,
-        c .before .sum-of9 .ensures .1,
-        c .before .before .sum-of8 .ensures .1,
-        c .before .before .before .before .before .sum-of7 .ensures .1,
-        c .before .before .before .before .before .before .sum-of6 .ensures .1,
-        c .before .before .before .before .before .before .before .sum-of5 .ensures .1,
-      );
-    }
-
-add-if4 : tie.Need-add-if4
-add-if4 c =
-    record {
-      fits = omega (
-        arith,
-        c .sum-of10 .ensures .1,
-        c .before .wide .ensures .1,
-        c .before .before .sum-of9 .ensures .1,
-        c .before .before .before .sum-of8 .ensures .1,
-        c .before .before .before .before .before .before .sum-of7 .ensures .1,
-        c .before .before .before .before .before .before .before .sum-of6 .ensures .1,
-        c .before .before .before .before .before .before .before .before .sum-of5 .ensures .1,
-      );
-    }
-
-add-if4-2 : tie.Need-add-if4-2
-add-if4-2 c =
-    record {
-      fits = omega (
-        arith,
-        c .sum-of10 .ensures .1,
-        c .before .wide .ensures .1,
-        c .before .before .sum-of9 .ensures .1,
-        c .before .before .before .sum-of8 .ensures .1,
-        c .before .before .before .before .before .before .sum-of7 .ensures .1,
-        c .before .before .before .before .before .before .before .sum-of6 .ensures .1,
-        c .before .before .before .before .before .before .before .before .sum-of5 .ensures .1,
-      );
-    }
-
 returns-4 : tie.Need-returns-4
 returns-4 c =
-    let at-start = c .before .before .before .before .before .before .before .before .before .before .before .before .before .before .before .before .before .before .before in
+    let at-start = c .before .before .before .before .before .before .before .before .before .before .before .before .before .before .before .before in
     absurd (c .if4 .taken (omega (
       arith,
-      c .before .sum-of10 .ensures .0,
-      c .before .before .wide .ensures .0,
-      c .before .before .before .sum-of9 .ensures .0,
-      c .before .before .before .before .sum-of8 .ensures .0,
-      c .before .before .before .before .before .saturating-sub4 .ensures,
-      c .before .before .before .before .before .before .before .before .before .sum-of5 .ensures .0,
-      c .before .before .before .before .before .before .before .before .before .before .saturating-sub3 .ensures,
-      c .before .before .before .before .before .before .before .before .before .before .before .before .before .before .saturating-sub2 .ensures,
-      c .before .before .before .before .before .before .before .before .before .before .before .before .before .before .before .before .before .before .saturating-sub .ensures,
+      c .before .with-matches4 .ensures,
+      c .before .before .matches-to-fifth .ensures .0,
+      c .before .before .before .risen-to-fifth .ensures,
       at-start .pre .fifth,
     )))
 
 pub balance-agrees-spec : {M : Type 1} → statement M
 balance-agrees-spec =
     tie.close
-    (tie.spec (λ c. search needs) (λ c. search needs) (λ c κs. search needs) (λ c. search needs)
-    (λ c κs. search needs) (λ c. search needs) (λ c. search needs) (λ c κs. search needs) returns
-    (λ c. search needs) (λ c. search needs) (λ c κs. search needs) (λ c. search needs) (λ c κs. search needs)
-    (λ c. search needs) (λ c. search needs) (λ c. search needs) (λ c. search needs) (λ c κs. search needs) returns-2
-    (λ c. search needs) (λ c. search needs) (λ c κs. search needs) (λ c. search needs) (λ c. search needs)
-    (λ c. search needs) (λ c κs. search needs) (λ c. search needs) (λ c κs. search needs) (λ c. search needs)
-    (λ c. search needs) (λ c. search needs) (λ c. search needs) (λ c κs. search needs) add-if3 returns-3
-    (λ c. search needs) (λ c. search needs) (λ c κs. search needs) (λ c. search needs) (λ c. search needs)
-    (λ c. search needs) (λ c. search needs) (λ c κs. search needs) (λ c. search needs) (λ c κs. search needs)
-    (λ c κs. search needs) add-risen (λ c. search needs) (λ c. search needs) (λ c. search needs) (λ c. search needs)
-    (λ c κs. search needs) add-if4 add-if4-2 returns-4 (λ c. search needs))
+    (tie.spec (λ c κs. tt) (λ c. search needs) (λ c κs. tt) (λ c κs. search needs) returns (λ c κs. tt) (λ c κs. tt)
+    (λ c κs. search needs) returns-2 (λ c κs. tt) (λ c κs. tt) (λ c κs. search needs) returns-3 (λ c κs. tt)
+    (λ c κs. tt) (λ c κs. search needs) returns-4 (λ c. search needs))

@@ -6,55 +6,33 @@ use Rattle.step_balance.proofs.falls_agree.Tie as tie
 
 returns : tie.Need-returns
 returns c =
-    let at-start = c .before .before .before .before in
-    absurd (c .if1 .taken (omega (
-      arith,
-      c .before .wide .ensures .0,
-      c .before .before .saturating-sub .ensures,
-      c .before .before .before .sum-of .ensures .0,
-      at-start .pre .second,
-    )))
+    let at-start = c .before .before .before in
+    absurd (c .if1 .taken (omega (arith, c .before .fall-after .ensures, c .before .before .wide .ensures .0, at-start .pre .second)))
 
 returns-2 : tie.Need-returns-2
 returns-2 c =
-    let at-start = c .before .before .before .before .before .before .before .before in
-    absurd (c .if2 .taken (omega (
-      arith,
-      c .before .wide2 .ensures .0,
-      c .before .before .saturating-sub2 .ensures,
-      c .before .before .before .sum-of2 .ensures .0,
-      at-start .pre .third,
-    )))
+    let at-start = c .before .before .before .before .before .before in
+    absurd
+    (c .if2 .taken
+    (omega (arith, c .before .fall-after2 .ensures, c .before .before .sum-of .ensures .0, at-start .pre .third)))
 
 returns-3 : tie.Need-returns-3
 returns-3 c =
-    let at-start = c .before .before .before .before .before .before .before .before .before .before .before .before in
-    absurd (c .if3 .taken (omega (
-      arith,
-      c .before .wide3 .ensures .0,
-      c .before .before .saturating-sub3 .ensures,
-      c .before .before .before .sum-of3 .ensures .0,
-      at-start .pre .fourth,
-    )))
+    let at-start = c .before .before .before .before .before .before .before .before .before in
+    absurd
+    (c .if3 .taken
+    (omega (arith, c .before .fall-after3 .ensures, c .before .before .matches-of-fourth .ensures .0, at-start .pre .fourth)))
 
 returns-4 : tie.Need-returns-4
 returns-4 c =
-    let at-start = c .before .before .before .before .before .before .before .before .before .before .before .before .before .before .before .before in
-    absurd (c .if4 .taken (omega (
-      arith,
-      c .before .wide4 .ensures .0,
-      c .before .before .saturating-sub4 .ensures,
-      c .before .before .before .sum-of4 .ensures .0,
-      at-start .pre .fifth,
-    )))
+    let at-start = c .before .before .before .before .before .before .before .before .before .before .before .before in
+    absurd
+    (c .if4 .taken
+    (omega (arith, c .before .fall-after4 .ensures, c .before .before .matches-of-fifth .ensures .0, at-start .pre .fifth)))
 
 pub falls-agree-spec : {M : Type 1} → statement M
 falls-agree-spec =
     tie.close
-    (tie.spec (λ c. search needs) (λ c κs. search needs) (λ c. search needs) (λ c. search needs)
-    (λ c κs. search needs) (λ c κs. search needs) returns (λ c. search needs) (λ c. search needs)
-    (λ c κs. search needs) (λ c. search needs) (λ c. search needs) (λ c κs. search needs) (λ c κs. search needs)
-    returns-2 (λ c. search needs) (λ c. search needs) (λ c. search needs) (λ c κs. search needs) (λ c. search needs)
-    (λ c. search needs) (λ c κs. search needs) (λ c κs. search needs) returns-3 (λ c. search needs)
-    (λ c. search needs) (λ c. search needs) (λ c. search needs) (λ c κs. search needs) (λ c. search needs)
-    (λ c. search needs) (λ c κs. search needs) (λ c κs. search needs) returns-4 (λ c. search needs))
+    (tie.spec (λ c. search needs) (λ c κs. search needs) (λ c κs. search needs) returns (λ c. search needs)
+    (λ c. search needs) (λ c κs. search needs) (λ c κs. search needs) returns-2 (λ c κs. search needs)
+    (λ c κs. search needs) returns-3 (λ c κs. search needs) (λ c κs. search needs) returns-4 (λ c. search needs))

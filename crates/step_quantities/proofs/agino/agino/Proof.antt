@@ -9,15 +9,15 @@ use Rattle.step_quantities.proofs.agino.agino.Tie as tie
 returns : tie.Need-returns
 returns c =
     let after-carried-back = c .before .before .before .before in
-    let after-lesser = after-carried-back .before .before .before .before in
-    let at-start = after-lesser .before .before in
+    let after-least-from = after-carried-back .before .before .before .before in
+    let at-start = after-least-from .before .before in
     let o = at-start .args .t1 in
     let a = at-start .args .a in
-    let last = after-lesser .before .saturating-sub .ensures in
-    let l₃ = least-step o 3 0 (least-last o 4) (after-lesser .lesser .ensures) in
-    let l₂ = least-step o 2 1 l₃ (after-carried-back .before .before .before .lesser2 .ensures) in
-    let l₁ = least-step o 1 2 l₂ (after-carried-back .before .before .lesser3 .ensures) in
-    let l₀ = least-step o 0 3 l₁ (after-carried-back .before .lesser4 .ensures) in
+    let last = after-least-from .before .saturating-sub .ensures in
+    let l₃ = least-step o 3 0 (least-last o 4) (after-least-from .least-from .ensures) in
+    let l₂ = least-step o 2 1 l₃ (after-carried-back .before .before .before .least-from2 .ensures) in
+    let l₁ = least-step o 1 2 l₂ (after-carried-back .before .before .least-from3 .ensures) in
+    let l₀ = least-step o 0 3 l₁ (after-carried-back .before .least-from4 .ensures) in
     five-is (agino o a)
     (agino-at o a 0 last l₀ (after-carried-back .carried-back .ensures))
     (agino-at o a 1 last l₁ (c .before .before .before .carried-back2 .ensures))
@@ -28,7 +28,6 @@ returns c =
 pub agino-spec : {M : Type 1} → statement M
 agino-spec =
     tie.close
-    (tie.spec (λ c. search needs) (λ c κs. tt) (λ c. search needs) (λ c. search needs) (λ c κs. tt)
-    (λ c. search needs) (λ c κs. tt) (λ c. search needs) (λ c κs. tt) (λ c. search needs) (λ c κs. tt)
-    (λ c. search needs) (λ c κs. tt) (λ c. search needs) (λ c κs. tt) (λ c. search needs) (λ c κs. tt)
-    (λ c. search needs) (λ c κs. tt) (λ c. search needs) (λ c. search needs) (λ c κs. tt) returns)
+    (tie.spec (λ c. search needs) (λ c κs. tt) (λ c. search needs) (λ c κs. search needs) (λ c κs. search needs)
+    (λ c κs. search needs) (λ c κs. search needs) (λ c κs. search needs) (λ c κs. search needs) (λ c κs. search needs)
+    (λ c κs. search needs) (λ c. search needs) (λ c κs. search needs) returns)

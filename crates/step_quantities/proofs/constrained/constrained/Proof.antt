@@ -10,7 +10,7 @@ unfolding constrained
 returns c =
     let after-constrained-in = c .before .before .before .before in
     let at-start = after-constrained-in .before in
-    let constrained′ = constrained (at-start .args .t1) (at-start .args .t2) (at-start .args .t3) in
+    let constrained′ = constrained (at-start .args .o) (at-start .args .g) (at-start .args .q) in
     five-is constrained′
     (after-constrained-in .constrained-in .ensures)
     (c .before .before .before .constrained-in2 .ensures)
@@ -19,7 +19,5 @@ returns c =
 pub constrained-spec : {M : Type 1} → statement M
 constrained-spec =
     tie.close
-    (tie.spec (λ c. search needs) (λ c. search needs) (λ c. search needs) (λ c κs. tt) (λ c. search needs)
-    (λ c. search needs) (λ c. search needs) (λ c κs. tt) (λ c. search needs) (λ c. search needs) (λ c. search needs)
-    (λ c κs. tt) (λ c. search needs) (λ c. search needs) (λ c. search needs) (λ c κs. tt) (λ c. search needs)
-    (λ c. search needs) (λ c. search needs) (λ c κs. tt) returns)
+    (tie.spec (λ c κs. search needs) (λ c κs. search needs) (λ c κs. search needs) (λ c κs. search needs)
+    (λ c κs. search needs) returns)
