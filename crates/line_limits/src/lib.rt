@@ -6,7 +6,7 @@ use layout::fields::actual_place;
 use layout::fields::hedge;
 use layout::fields::side;
 use line_quantities::rows::pricing_totals;
-use line_quantities::sums::operating_totals;
+use line_totals::operating_totals;
 use numbers::wide;
 use units::Quantity;
 use units::quantity_refusal;

@@ -1,3 +1,2 @@
--- Sums of words of a line (Words), and of rows and tables of numbers (Sums).
+-- Sums of words of a line.
 pub mod Words
-pub mod Sums

@@ -1,3 +1,2 @@
-// A line's quantities (document 01, "Quantities"): its rows as they stand in the file, and their sums.
+// A line's quantities (document 01, "Quantities"): its rows as they stand in the file.
 pub mod rows;
-pub mod sums;

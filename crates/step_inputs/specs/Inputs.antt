@@ -11,7 +11,7 @@ use Rattle.rules.specs.declared.Step.{Step}
 use Rattle.laws.specs.Accepted.{AcceptedLine}
 use Rattle.step_inputs.specs.declared.inputs.Market.{Market}
 use Rattle.step_inputs.specs.declared.inputs.LineTotals.{LineTotals}
-use Rattle.step_inputs.specs.Terms.{cappedIn, paidIn}
+use Rattle.step_terms.specs.Terms.{cappedIn, paidIn}
 
 unfoldable pub marketOf : List ℕ → Market
 marketOf d =

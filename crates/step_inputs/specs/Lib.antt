@@ -1,5 +1,3 @@
--- A step's price under the cap, and whether it is paid.
-pub mod Terms
 -- A step put together from the market table, a line's totals and the cutter's answer (Inputs), and that it is document 01's (Steps).
 pub mod Inputs
 pub mod Steps

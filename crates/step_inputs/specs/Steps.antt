@@ -16,7 +16,7 @@ use Rattle.cutter.specs.Arrays.{bitAt, priceIn, flagIn, bits-at, padded-at, pad
 use Rattle.cutter.specs.Prices.{prices-at, prices-length, flags-at, flags-most}
 use Rattle.cutter.specs.Ends.{count-most}
 use Rattle.step_inputs.specs.Inputs.{marketOf, totalsOf, stepWith}
-use Rattle.step_inputs.specs.Terms.{cappedAt, cappedIn, paidOn, paidIn}
+use Rattle.step_terms.specs.Terms.{cappedAt, cappedIn, paidOn, paidIn}
 
 -- the parts of `stepOf`, with the cutter's rows
 step-parts : (d : List ℕ) (k j : ℕ) (p f : List ℕ)

@@ -1,6 +1,4 @@
 // What one step is worked out from: the market table, a line's totals and the cut step, put together as a `Step`.
-use crate::cap_and_paid::capped_row;
-use crate::cap_and_paid::paid_row;
 use cutter::read_step::flag_row;
 use cutter::read_step::price_row;
 use layout::fields::accreditation;
@@ -12,9 +10,11 @@ use layout::market::market_prices;
 use layout::market::price_cap;
 use line_quantities::rows::actuals;
 use line_quantities::rows::pricing_totals;
-use line_quantities::sums::effective_actual;
-use line_quantities::sums::operating_totals;
+use line_totals::effective_actual;
+use line_totals::operating_totals;
 use rules::Step;
+use step_terms::capped_row;
+use step_terms::paid_row;
 ghost use mathlib.Core.Path.{_≡_};
 ghost use Prim.Native.Nat.{ℕ, _≤_, _<_, _^_};
 ghost use lib.ListN.{length};

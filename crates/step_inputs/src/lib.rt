@@ -1,3 +1,2 @@
 // What a step is worked out from: its prices under the cap, whether it is paid, and the day's and the line's part in it.
-mod cap_and_paid;
 pub mod inputs;

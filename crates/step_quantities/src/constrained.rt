@@ -1,11 +1,11 @@
 // Constrained on, and AGINO and MSIQ of a step, each for the five schedules at once (document 01, "Quantities").
-use crate::agino::agino;
-use crate::msiq::msiq;
 use numbers::saturating_sub;
 use rules::Step;
+use step_agino::agino;
 use step_allocation::actual_on;
 use step_allocation::operating_on;
 use step_allocation::pricing_on;
+use step_msiq::msiq;
 ghost use mathlib.Core.Path.{_≡_};
 ghost use Prim.Native.Nat.{_-_, _<_};
 ghost use Rattle.rules.specs.Fold.{five, at};

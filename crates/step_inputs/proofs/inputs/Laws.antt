@@ -15,13 +15,13 @@ use Rattle.rules.specs.Days.{stepOf}
 use Rattle.rules.specs.declared.Step.{Step}
 use Rattle.laws.specs.Folds.{at-five}
 use Rattle.laws.specs.Accepted.{accepted-with}
-use Rattle.line_quantities.specs.Sums.{lesserSum, lesserAt}
+use Rattle.line_totals.specs.Sums.{lesserSum, lesserAt}
 use Rattle.cutter.specs.Arrays.{priceIn, flagIn}
 use Rattle.cutter.specs.Ends.{most-limit}
 use Rattle.step_inputs.specs.declared.inputs.Market.{Market}
 use Rattle.step_inputs.specs.declared.inputs.LineTotals.{LineTotals}
 use Rattle.step_inputs.specs.Inputs.{marketOf, totalsOf, stepWith, StepReady}
-use Rattle.step_inputs.specs.Terms.{cappedIn, paidIn}
+use Rattle.step_terms.specs.Terms.{cappedIn, paidIn}
 use Rattle.step_inputs.specs.Steps.{end-is, step-is, actual-most}
 
 pub market-is : (d p m : List ℕ) (c k : ℕ) → p ≡ five (layout.marketPrice d) → m ≡ five (layout.capMark d) → c ≡ layout.priceCap d → k ≡ layout.clawback d

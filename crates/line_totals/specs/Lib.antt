@@ -1,0 +1,2 @@
+-- Sums of rows and tables of numbers.
+pub mod Sums

@@ -1,0 +1,2 @@
+-- A step's price under the cap, and whether it is paid.
+pub mod Terms
