@@ -6,57 +6,50 @@ use numbers::share;
 use numbers::wide;
 use step_pool::pool_amounts::SidePool;
 ghost use mathlib.Core.Path.{_≡_};
-ghost use Prim.Native.Nat.{ℕ, _<_};
+ghost use mathlib.Core.Bool.{cond};
+ghost use Prim.Native.Nat.{ℕ, _-_, _<_};
+ghost use lib.Dec.{eqb};
 ghost use Rattle.rules.specs.Fold.{five, at};
 ghost use Rattle.step_payments.specs.Parts.{takenBack};
 ghost use Rattle.step_pool.specs.Amounts.{totalIn, baseIn, takenIn, Sharing};
 
 // T of a schedule, or 0 where it isn't above 0 or nothing differs.
-fn shared_total(p: SidePool, s: usize) -> u64
-    requires { ⌜ s < 5 ⌝ }
-    ensures { λ r. ⌜ r ≡ totalIn p s ⌝ }
+fn shared_total(plus: u64, minus: u64, differs: u64) -> u64
+    ensures { λ r. ⌜ r ≡ cond (eqb differs 0) 0 (plus - minus) ⌝ }
 {
-    let plus = p.plus;
-    let minus = p.minus;
-    let differs = p.differs;
-    if differs[s] == 0 {
+    if differs == 0 {
         return 0;
     }
-    saturating_sub64(plus[s], minus[s])
+    saturating_sub64(plus, minus)
 }
 
 pub fn shared_totals(p: SidePool) -> [u64; 5]
     ensures { λ r. ⌜ r ≡ five (totalIn p) ⌝ }
 {
+    let plus = p.plus;
+    let minus = p.minus;
+    let differs = p.differs;
     [
-        shared_total(p, 0),
-        shared_total(p, 1),
-        shared_total(p, 2),
-        shared_total(p, 3),
-        shared_total(p, 4),
+        shared_total(plus[0], minus[0], differs[0]),
+        shared_total(plus[1], minus[1], differs[1]),
+        shared_total(plus[2], minus[2], differs[2]),
+        shared_total(plus[3], minus[3], differs[3]),
+        shared_total(plus[4], minus[4], differs[4]),
     ]
-}
-
-// B of a schedule.
-fn base_in(p: SidePool, s: usize) -> u64
-    requires { ⌜ s < 5 ⌝ }
-    ensures { λ r. ⌜ r ≡ baseIn p s ⌝ }
-{
-    let rises = p.rises;
-    let falls = p.falls;
-    greater64(rises[s], falls[s])
 }
 
 // B
 pub fn bases(p: SidePool) -> [u64; 5]
     ensures { λ r. ⌜ r ≡ five (baseIn p) ⌝ }
 {
+    let rises = p.rises;
+    let falls = p.falls;
     [
-        base_in(p, 0),
-        base_in(p, 1),
-        base_in(p, 2),
-        base_in(p, 3),
-        base_in(p, 4),
+        greater64(rises[0], falls[0]),
+        greater64(rises[1], falls[1]),
+        greater64(rises[2], falls[2]),
+        greater64(rises[3], falls[3]),
+        greater64(rises[4], falls[4]),
     ]
 }
 

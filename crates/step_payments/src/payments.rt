@@ -13,7 +13,6 @@ use step_changes::rises_falls::rises;
 use step_matching::matches::match_table;
 use step_quantities::constrained::constrained_on;
 ghost use mathlib.Core.Path.{_≡_};
-ghost use Prim.Native.Nat.{_<_};
 ghost use Rattle.rules.specs.Fold.{five};
 ghost use Rattle.rules.specs.Payments as paper;
 ghost use Rattle.step_payments.specs.Sizes.{Sized};
@@ -57,27 +56,19 @@ pub fn modified_money(x: Step) -> Money
     }
 }
 
-// The signed payment of schedule s.
-fn signed_in(m: Money, s: usize) -> i64
-    requires { ⌜ (s < 5) × (Signable m) ⌝ }
-    ensures { λ r. ⌜ r ≡ signedPayment m s ⌝ }
-{
-    let plus = m.plus;
-    let minus = m.minus;
-    signed_difference(plus[s], minus[s])
-}
-
 // Money as signed payments.
 pub fn signed_money(m: Money) -> [i64; 5]
     requires { ⌜ Signable m ⌝ }
     ensures { λ r. ⌜ r ≡ five (signedPayment m) ⌝ }
 {
+    let plus = m.plus;
+    let minus = m.minus;
     [
-        signed_in(m, 0),
-        signed_in(m, 1),
-        signed_in(m, 2),
-        signed_in(m, 3),
-        signed_in(m, 4),
+        signed_difference(plus[0], minus[0]),
+        signed_difference(plus[1], minus[1]),
+        signed_difference(plus[2], minus[2]),
+        signed_difference(plus[3], minus[3]),
+        signed_difference(plus[4], minus[4]),
     ]
 }
 

@@ -15,18 +15,19 @@ use step_matching::matches::match_table;
 use step_payments::given_back::revised_minus;
 use step_quantities::constrained::constrained_on;
 ghost use mathlib.Core.Path.{_≡_};
+ghost use mathlib.Core.Bool.{not};
 ghost use Prim.Native.Nat.{ℕ, _<_, _^_};
+ghost use lib.Dec.{eqb};
 ghost use Rattle.rules.specs.Fold.{five};
 ghost use Rattle.rules.specs.Payments as paper;
 ghost use Rattle.step_payments.specs.Sizes.{Sized};
 ghost use Rattle.step_pool.specs.Amounts.{sumIn, differIn, stepPool, noPool, changesOn, poolSum, Kept, Addable};
 
-// 1 where two rows differ in schedule s.
-fn differ_in(a: [u64; 5], b: [u64; 5], s: usize) -> u64
-    requires { ⌜ s < 5 ⌝ }
-    ensures { λ r. ⌜ r ≡ differIn a b s ⌝ }
+// 1 where two numbers differ.
+fn differ(a: u64, b: u64) -> u64
+    ensures { λ r. ⌜ r ≡ paper.bit (not (eqb a b)) ⌝ }
 {
-    wide(bit(a[s] != b[s]))
+    wide(bit(a != b))
 }
 
 // The same in each schedule.
@@ -34,11 +35,11 @@ fn differing(a: [u64; 5], b: [u64; 5]) -> [u64; 5]
     ensures { λ r. ⌜ r ≡ five (differIn a b) ⌝ }
 {
     [
-        differ_in(a, b, 0),
-        differ_in(a, b, 1),
-        differ_in(a, b, 2),
-        differ_in(a, b, 3),
-        differ_in(a, b, 4),
+        differ(a[0], b[0]),
+        differ(a[1], b[1]),
+        differ(a[2], b[2]),
+        differ(a[3], b[3]),
+        differ(a[4], b[4]),
     ]
 }
 
@@ -78,24 +79,17 @@ fn full_pool(x: Step, c: [u32; 5], v: Changes) -> SidePool
     }
 }
 
-fn sum_in(a: [u64; 5], b: [u64; 5], s: usize) -> u64
-    requires { ⌜ (s < 5) × (sumIn a b s < 2 ^ 64) ⌝ }
-    ensures { λ r. ⌜ r ≡ sumIn a b s ⌝ }
-{
-    a[s] + b[s]
-}
-
 // Two rows, place by place.
 pub fn add_rows(a: [u64; 5], b: [u64; 5]) -> [u64; 5]
     requires { ⌜ ((s : ℕ) → sumIn a b s < 2 ^ 64) ⌝ }
     ensures { λ r. ⌜ r ≡ five (sumIn a b) ⌝ }
 {
     [
-        sum_in(a, b, 0),
-        sum_in(a, b, 1),
-        sum_in(a, b, 2),
-        sum_in(a, b, 3),
-        sum_in(a, b, 4),
+        a[0] + b[0],
+        a[1] + b[1],
+        a[2] + b[2],
+        a[3] + b[3],
+        a[4] + b[4],
     ]
 }
 

@@ -1,19 +1,35 @@
 -- `step_changes::rates::rates` meets its contract.
-use borrow.Author.Needs.{needs}
+use lib.Dec.{lit<}
 use Rattle.numbers.specs.Fives.{five-is}
 use Rattle.rules.specs.Payments.{rate}
 use Rattle.step_changes.proofs.rates.rates.Statement.{statement}
 use Rattle.step_changes.proofs.rates.rates.Tie as tie
 
 returns : tie.Need-returns
+unfolding rate
 returns c =
-    let after-rate-in = c .before .before .before .before in
-    let g = after-rate-in .before .args in
-    five-is (rate (g .x)) (after-rate-in .rate-in .ensures) (c .before .before .before .rate-in2 .ensures)
-    (c .before .before .rate-in3 .ensures) (c .before .rate-in4 .ensures) (c .rate-in5 .ensures)
+    let after-excess = c .before .before .before .before in
+    let at-start = after-excess .before .before .before in
+    five-is (rate (at-start .args .x)) (after-excess .excess .ensures) (c .before .before .before .excess2 .ensures)
+    (c .before .before .excess3 .ensures) (c .before .excess4 .ensures) (c .excess5 .ensures)
 
 pub rates-spec : {M : Type 1} → statement M
 rates-spec =
     tie.close
-    (tie.spec (λ c κs. search needs) (λ c κs. search needs) (λ c κs. search needs) (λ c κs. search needs)
-    (λ c κs. search needs) returns)
+    (tie.spec
+    (λ c. lit< tt)
+    (λ c. lit< tt)
+    (λ c κs. tt)
+    (λ c. lit< tt)
+    (λ c. lit< tt)
+    (λ c κs. tt)
+    (λ c. lit< tt)
+    (λ c. lit< tt)
+    (λ c κs. tt)
+    (λ c. lit< tt)
+    (λ c. lit< tt)
+    (λ c κs. tt)
+    (λ c. lit< tt)
+    (λ c. lit< tt)
+    (λ c κs. tt)
+    returns)

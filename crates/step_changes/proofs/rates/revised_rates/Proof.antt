@@ -6,15 +6,23 @@ use Rattle.step_changes.proofs.rates.revised_rates.Statement.{statement
 use Rattle.step_changes.proofs.rates.revised_rates.Tie as tie
 
 returns : tie.Need-returns
+unfolding revisedAt
 returns c =
-    let after-revised-rate-in = c .before .before .before .before in
-    let g = after-revised-rate-in .before .args in
-    five-is (revisedAt (g .side) (g .price) (g .own) (g .market)) (after-revised-rate-in .revised-rate-in .ensures)
-    (c .before .before .before .revised-rate-in2 .ensures) (c .before .before .revised-rate-in3 .ensures)
-    (c .before .revised-rate-in4 .ensures) (c .revised-rate-in5 .ensures)
+    let after-excess3 = c .before .before .before .before in
+    let after-excess = after-excess3 .before .before .before .before in
+    let at-start = after-excess .before .before in
+    let g = at-start .args in
+    five-is
+    (revisedAt (g .side) (g .t2) (g .own) (g .market))
+    (rw (← after-excess .before .milder .ensures) (after-excess .excess .ensures))
+    (rw (← after-excess3 .before .before .before .milder2 .ensures) (after-excess3 .before .before .excess2 .ensures))
+    (rw (← after-excess3 .before .milder3 .ensures) (after-excess3 .excess3 .ensures))
+    (rw (← c .before .before .before .milder4 .ensures) (c .before .before .excess4 .ensures))
+    (rw (← c .before .milder5 .ensures) (c .excess5 .ensures))
 
 pub revised-rates-spec : {M : Type 1} → statement M
 revised-rates-spec =
     tie.close
-    (tie.spec (λ c κs. search needs) (λ c κs. search needs) (λ c κs. search needs) (λ c κs. search needs)
-    (λ c κs. search needs) returns)
+    (tie.spec (λ c. search needs) (λ c κs. tt) (λ c κs. tt) (λ c. search needs) (λ c κs. tt) (λ c κs. tt)
+    (λ c. search needs) (λ c κs. tt) (λ c κs. tt) (λ c. search needs) (λ c κs. tt) (λ c κs. tt) (λ c. search needs)
+    (λ c κs. tt) (λ c κs. tt) returns)

@@ -10,12 +10,13 @@ use Rattle.step_changes.proofs.rises_falls.falls.Tie as tie
 returns : tie.Need-returns
 unfolding fall earlier before
 returns c =
-    let after-difference-in = c .before .before .before in
-    let g = after-difference-in .before .args in
-    five-is (fall (g .c)) (omega arith) (after-difference-in .difference-in .ensures)
-    (c .before .before .difference-in2 .ensures) (c .before .difference-in3 .ensures) (c .difference-in4 .ensures)
+    let at-start = c .before .before .before .before in
+    five-is (fall (at-start .args .t1)) (omega arith) (c .before .before .before .saturating-sub .ensures)
+    (c .before .before .saturating-sub2 .ensures) (c .before .saturating-sub3 .ensures) (c .saturating-sub4 .ensures)
 
 pub falls-spec : {M : Type 1} → statement M
 falls-spec =
     tie.close
-    (tie.spec (λ c κs. search needs) (λ c κs. search needs) (λ c κs. search needs) (λ c κs. search needs) returns)
+    (tie.spec (λ c. search needs) (λ c. search needs) (λ c κs. tt) (λ c. search needs) (λ c. search needs)
+    (λ c κs. tt) (λ c. search needs) (λ c. search needs) (λ c κs. tt) (λ c. search needs) (λ c. search needs)
+    (λ c κs. tt) returns)

@@ -6,15 +6,17 @@ use Rattle.step_changes.proofs.rises_falls.products.Statement.{statemen
 use Rattle.step_changes.proofs.rises_falls.products.Tie as tie
 
 returns : tie.Need-returns
+unfolding productIn
 returns c =
-    let after-product-in = c .before .before .before .before in
-    let g = after-product-in .before .args in
-    five-is (productIn (g .a) (g .b)) (after-product-in .product-in .ensures)
-    (c .before .before .before .product-in2 .ensures) (c .before .before .product-in3 .ensures)
-    (c .before .product-in4 .ensures) (c .product-in5 .ensures)
+    let after-product = c .before .before .before .before in
+    let at-start = after-product .before in
+    five-is (productIn (at-start .args .t1) (at-start .args .t2)) (after-product .product .ensures)
+    (c .before .before .before .product2 .ensures) (c .before .before .product3 .ensures) (c .before .product4 .ensures)
+    (c .product5 .ensures)
 
 pub products-spec : {M : Type 1} → statement M
 products-spec =
     tie.close
-    (tie.spec (λ c κs. search needs) (λ c κs. search needs) (λ c κs. search needs) (λ c κs. search needs)
-    (λ c κs. search needs) returns)
+    (tie.spec (λ c. search needs) (λ c. search needs) (λ c κs. tt) (λ c. search needs) (λ c. search needs)
+    (λ c κs. tt) (λ c. search needs) (λ c. search needs) (λ c κs. tt) (λ c. search needs) (λ c. search needs)
+    (λ c κs. tt) (λ c. search needs) (λ c. search needs) (λ c κs. tt) returns)

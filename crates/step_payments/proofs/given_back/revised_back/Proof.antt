@@ -2,8 +2,6 @@
 use mathlib.Core.Path.{sym}
 use borrow.Author.Needs.{needs}
 use borrow.Author.Tests.{eq-eqb, ne-eqb}
-use Rattle.rules.specs.Payments.{revisedRate}
-use Rattle.step_changes.specs.Changes.{revisedAt}
 use Rattle.step_payments.proofs.given_back.revised_back.Statement.{statement}
 use Rattle.step_payments.proofs.given_back.revised_back.Tie as tie
 
@@ -11,20 +9,15 @@ returns : tie.Need-returns
 returns c = rw (eq-eqb (c .before .args .initial) 0 (c .if1 .taken))
 
 given-back-requires : tie.Need-given-back-requires
-unfolding revisedRate revisedAt
-given-back-requires c κs =
-    let at-start = c .before .before .before .before in
-    rw (c .revised-rates .ensures) (at-start .pre .1)
+given-back-requires c κs = rw (c .revised-rates .ensures) (c .before .before .pre)
 
 returns-2 : tie.Need-returns-2
-unfolding revisedRate revisedAt
 returns-2 c =
-    let in-else1 = c .before .before .before .before in
-    rw (ne-eqb (in-else1 .before .args .initial) 0 (in-else1 .if1 .left), sym (c .before .revised-rates .ensures))
+    let at-start = c .before .before .before in
+    rw (ne-eqb (at-start .args .initial) 0 (c .before .before .if1 .left), sym (c .before .revised-rates .ensures))
     (c .given-back .ensures)
 
 pub revised-back-spec : {M : Type 1} → statement M
 revised-back-spec =
     tie.close
-    (tie.spec returns (λ c. search needs) (λ c. search needs) (λ c. search needs) (λ c. search needs)
-    (λ c κs. search needs) given-back-requires returns-2)
+    (tie.spec returns (λ c κs. search needs) given-back-requires returns-2)

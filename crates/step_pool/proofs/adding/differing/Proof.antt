@@ -6,14 +6,17 @@ use Rattle.step_pool.proofs.adding.differing.Statement.{statement}
 use Rattle.step_pool.proofs.adding.differing.Tie as tie
 
 returns : tie.Need-returns
+unfolding differIn
 returns c =
-    let after-differ-in = c .before .before .before .before in
-    let g = after-differ-in .before .args in
-    five-is (differIn (g .a) (g .b)) (after-differ-in .differ-in .ensures) (c .before .before .before .differ-in2 .ensures)
-    (c .before .before .differ-in3 .ensures) (c .before .differ-in4 .ensures) (c .differ-in5 .ensures)
+    let after-differ = c .before .before .before .before in
+    let at-start = after-differ .before in
+    five-is (differIn (at-start .args .t1) (at-start .args .t2)) (after-differ .differ .ensures)
+    (c .before .before .before .differ2 .ensures) (c .before .before .differ3 .ensures) (c .before .differ4 .ensures)
+    (c .differ5 .ensures)
 
 pub differing-spec : {M : Type 1} → statement M
 differing-spec =
     tie.close
-    (tie.spec (λ c κs. search needs) (λ c κs. search needs) (λ c κs. search needs) (λ c κs. search needs)
-    (λ c κs. search needs) returns)
+    (tie.spec (λ c. search needs) (λ c. search needs) (λ c κs. tt) (λ c. search needs) (λ c. search needs)
+    (λ c κs. tt) (λ c. search needs) (λ c. search needs) (λ c κs. tt) (λ c. search needs) (λ c. search needs)
+    (λ c κs. tt) (λ c. search needs) (λ c. search needs) (λ c κs. tt) returns)
