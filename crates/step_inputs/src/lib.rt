@@ -1,2 +1,2 @@
-// What a step is worked out from: its prices under the cap, whether it is paid, and the day's and the line's part in it.
+// What a step is worked out from: the day's and the line's part in it, put together with the cutter's.
 pub mod inputs;

@@ -26,10 +26,11 @@ rises-agree-requires c κs =
 
 balance-agrees-requires : tie.Need-balance-agrees-requires
 balance-agrees-requires c κs =
-    let after-view = c .before .before .before .before .before .before .before .before in
+    let at-if = c .before .before .before .before .before .before in
+    let after-view = at-if .before .before in
     let at-start = after-view .before .before in
     balanced (now (at-start .args .day)) (at-start .args .line) (at-start .args .step) _ (after-view .view .ensures)
-    (c .before .before .before .before .before .before .if1 .left)
+    (at-if .if1 .left)
 
 returns-2 : tie.Need-returns-2
 returns-2 c = c .balance-agrees .ensures
