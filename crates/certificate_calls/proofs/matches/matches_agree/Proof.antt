@@ -19,10 +19,11 @@ falls-agree-requires c κs =
 
 rises-agree-requires : tie.Need-rises-agree-requires
 rises-agree-requires c κs =
-    let after-view = c .before .before .before .before .before .before in
+    let at-if = c .before .before .before .before in
+    let after-view = at-if .before .before in
     let at-start = after-view .before .before in
     rises-bound (now (at-start .args .day)) (at-start .args .line) (at-start .args .step) _ (after-view .view .ensures)
-    (c .before .before .before .before .if1 .left)
+    (at-if .if1 .left)
 
 balance-agrees-requires : tie.Need-balance-agrees-requires
 balance-agrees-requires c κs =
