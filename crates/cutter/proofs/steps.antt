@@ -1,5 +1,4 @@
 -- Laws that proofs of functions cite.
-pub mod Least
-pub mod Cursors
+pub mod Next
 pub mod Filling
 pub mod Swept

@@ -10,10 +10,11 @@ use lib.ListN.{length, getD, length-append}
 use lib.Dec.{eqb}
 use borrow.Author.Tests.{ne-eqb}
 use Rattle.rules.specs.Fold.{joined, listTo}
-use Rattle.rules.specs.Layout.{quantityMost, hedge, bidCount, bidBreak}
+use Rattle.rules.specs.Layout.{hedge, bidCount, bidBreak}
 use Rattle.rules.specs.Steps.{ends, hedgePoint, bidBreaks, stepCount, upperEnd, greatestBreak, bidMost}
-use Rattle.laws.specs.Folds.{joined-none, joined-suc, list-length, most-least, most-term}
-use Rattle.laws.specs.Accepted.{AcceptedWith, AcceptedLine}
+use Rattle.laws.specs.Folds.{joined-none, joined-suc, list-length, most-term}
+use Rattle.laws.specs.Accepted.{AcceptedLine}
+pub use Rattle.cutter_cursors.specs.Places.{most-of, most-limit}
 use Rattle.cutter.specs.Lists.{_∈_, here, in-cons, in-none, in-left, in-right, in-append, in-at, place-of}
 use Rattle.cutter.specs.Lists.{in-list, list-in, in-joined, joined-in, in-rising, rising-in}
 use Rattle.cutter.specs.Lists.{Rises, rises-rising, rising-length, rises-mono}
@@ -80,14 +81,6 @@ break-most w s j a b =
 pub end-most : (w : List ℕ) → AcceptedLine w → (u : ℕ) → EndOf w u → u ≤ greatestBreak w
 end-most w h u (of-break s j a b e) = let c = break-most w s j a b in omega arith
 end-most w h u (of-hedge p e) = let c = h .hedge-most in omega arith
-
--- M is the least number that every break is at most
-pub most-of : (w : List ℕ) (m : ℕ) → ((s j : ℕ) → s < 5 → j < bidCount w s → bidBreak w s j ≤ m) → greatestBreak w ≤ m
-unfolding greatestBreak bidMost
-most-of w m h = most-least 5 m (bidMost w) (λ s a. most-least (bidCount w s) m (bidBreak w s) (λ j b. h s j a b))
-
-pub most-limit : {t : List (List ℕ)} (w : List ℕ) → AcceptedWith t w → greatestBreak w ≤ quantityMost
-most-limit w h = most-of w quantityMost (λ s j a b. h .bids s a .break-most j b)
 
 pub ends-rise : (w : List ℕ) → AcceptedLine w → Rises 0 (ends w)
 unfolding ends

@@ -1,53 +1,29 @@
 -- Laws of a step's price and flag in one schedule, from what acceptance says of the bid.
-use Prim.Native.Nat.{ℕ, zero, suc, _-_, _≤_, _<_, min}
+use Prim.Native.Nat.{ℕ, zero, suc, _-_, _≤_, _<_}
 use native.Mathlib.Omega.{arith}
 use native.Mathlib.Decide.{decLt}
-use mathlib.Core.Path.{_≡_, _∙_, ap}
+use mathlib.Core.Path.{_≡_}
 use mathlib.Core.Bool.{Bool, true, false, cond}
 use mathlib.Core.List.{List}
 use lib.ListN.{length, getD, length-map, List·getD-eq-default}
 use lib.Dec.{eqb, ltb}
-use borrow.Author.Tests.{lt-ltb, le-ltb, ltb-false}
+use borrow.Author.Tests.{le-ltb, ltb-false}
 use Rattle.rules.specs.Layout.{side, bidCount, bidBreak, bidPrice}
 use Rattle.rules.specs.Refusals.{outOfOrder}
 use Rattle.rules.specs.Steps.{ends, stepCount, upperEnd, bidStep, price, flag}
 use Rattle.rules.specs.Cutting.{prices, flags}
 use Rattle.laws.specs.Accepted.{AcceptedLine}
 use Rattle.cutter.specs.Arrays.{map-at}
-use Rattle.cutter_cursors.specs.Search.{First, step-first, first-mono}
+use Rattle.cutter_cursors.specs.Search.{bid-first, first-mono}
+use Rattle.cutter_cursors.specs.Sweep.{placeOf}
+use Rattle.cutter_cursors.specs.Places.{place-below}
+use Rattle.cutter_prices.specs.Rule.{price-found, price-none, flag-found, flag-none, flag-most, price-place}
 
 -- "its price is that of the first bid step whose break is at least its upper end. If there is none, the price is the bid's last price
 -- and the flag is 1. Otherwise the flag is 0": price p and flag f of the step that ends at u
 pub data PriceRule (w : List ℕ) (s u p f : ℕ) : Type 0 where
   of-step : (j : ℕ) → j < bidCount w s → ((i : ℕ) → i < j → bidBreak w s i < u) → u ≤ bidBreak w s j → p ≡ bidPrice w s j → f ≡ 0 → PriceRule w s u p f
   of-last : ((i : ℕ) → i < bidCount w s → bidBreak w s i < u) → p ≡ bidPrice w s (bidCount w s - 1) → f ≡ 1 → PriceRule w s u p f
-
-pub bid-first : (w : List ℕ) (s u : ℕ) → First (bidBreak w s) u (bidCount w s) (bidStep w s u)
-unfolding bidStep
-bid-first w s u = step-first (bidBreak w s) u (bidCount w s)
-
-pub price-found : (w : List ℕ) (s u : ℕ) → bidStep w s u < bidCount w s → price w s u ≡ bidPrice w s (bidStep w s u)
-unfolding price
-price-found w s u h = rw (lt-ltb (bidStep w s u) (bidCount w s) h)
-
-pub price-none : (w : List ℕ) (s u : ℕ) → bidCount w s ≤ bidStep w s u → price w s u ≡ bidPrice w s (bidCount w s - 1)
-unfolding price
-price-none w s u h = rw (le-ltb (bidStep w s u) (bidCount w s) h)
-
-pub flag-found : (w : List ℕ) (s u : ℕ) → bidStep w s u < bidCount w s → flag w s u ≡ 0
-unfolding flag
-flag-found w s u h = rw (lt-ltb (bidStep w s u) (bidCount w s) h)
-
-pub flag-none : (w : List ℕ) (s u : ℕ) → bidCount w s ≤ bidStep w s u → flag w s u ≡ 1
-unfolding flag
-flag-none w s u h = rw (le-ltb (bidStep w s u) (bidCount w s) h)
-
-pub flag-most : (w : List ℕ) (s u : ℕ) → flag w s u ≤ 1
-flag-most w s u =
-    elim (decLt (bidStep w s u) (bidCount w s)) [
-      | yes l ↦ rw (flag-found w s u l) (omega arith)
-      | no g ↦ rw (flag-none w s u (omega arith)) (omega arith)
-    ]
 
 pub price-rule : (w : List ℕ) (s u : ℕ) → PriceRule w s u (price w s u) (flag w s u)
 price-rule w s u =
@@ -106,24 +82,13 @@ order-places sd n pr h i (suc j) l m =
       | no g ↦ let e : i ≡ suc j = omega arith in rw e (order-same sd (pr (suc j)))
     ]
 
--- the price is that of the step found, or of the last
-pub price-min : (w : List ℕ) (s u : ℕ) → 0 < bidCount w s → price w s u ≡ bidPrice w s (min (bidStep w s u) (bidCount w s - 1))
-price-min w s u h =
-    elim (decLt (bidStep w s u) (bidCount w s)) [
-      | yes l ↦
-          let e : bidStep w s u ≡ min (bidStep w s u) (bidCount w s - 1) = omega arith in
-          price-found w s u l ∙ ap (bidPrice w s) e
-      | no g ↦
-          let e : bidCount w s - 1 ≡ min (bidStep w s u) (bidCount w s - 1) = omega arith in
-          price-none w s u (omega arith) ∙ ap (bidPrice w s) e
-    ]
-
 pub price-order : (w : List ℕ) → AcceptedLine w → (s u v : ℕ) → s < 5 → u ≤ v → outOfOrder (side w) (price w s u) (price w s v) ≡ false
+unfolding placeOf
 price-order w h s u v l m =
-    let c = h .bids s l .count-least in
+    let b = h .bids s l in
     let d = first-mono (bid-first w s u) (bid-first w s v) m in
-    rw (price-min w s u c, price-min w s v c)
-    (order-places (side w) (bidCount w s) (bidPrice w s) (h .bids s l .ordered) (min (bidStep w s u) (bidCount w s - 1)) (min (bidStep w s v) (bidCount w s - 1)) (omega arith) (omega arith))
+    rw (← price-place w s u, ← price-place w s v)
+    (order-places (side w) (bidCount w s) (bidPrice w s) (b .ordered) (placeOf w s u - 1) (placeOf w s v - 1) (omega arith) (place-below w s v (b .count-least)))
 
 -- the steps' prices and flags, place by place
 pub prices-length : (w : List ℕ) (s : ℕ) → length (prices w s) ≡ stepCount w

@@ -1,68 +1,69 @@
 // The steps of an accepted line (document 01, "Steps and prices"): the least of the cursors' breaks and of the hedge that is above the
-// last end is the next end, and where a cursor stands gives the step's price and flag in its schedule. No cursor moves back, and
+// last end is the next end, and where a cursor stands gives the step's price and flag in its schedule. No cursor moves back, and compiled,
 // nothing in a step is decided by a branch.
-use cutter_cursors::cursors::Words;
 use cutter_cursors::cursors::next_gap;
 use cutter_cursors::cursors::passed;
 use cutter_cursors::cursors::start;
-use cutter_prices::marked;
-use cutter_prices::put_prices;
-use layout::fields::hedge;
+use cutter_prices::Missing;
+use cutter_prices::flag_words;
+use cutter_prices::put_step;
 use rules::Cut;
 ghost use mathlib.Core.Path.{_≡_};
+ghost use lib.Count.{ones};
+ghost use Rattle.rules.specs.Fold.{five, at};
 ghost use Rattle.rules.specs.Cutting.{cutOf};
 ghost use Rattle.cutter_cursors.specs.Sweep.{Line};
 
 // A gap that no break above an end has.
 const FAR: u32 = 2147483648;
 
-// The steps of an accepted line. The loop maintains that the ends, prices and flags of the first n steps are written, that the cursors
-// stand where they do after the last of these ends, and that `far` is the gap to the next end.
+// How many flags are set in each word.
+fn counted(words: [u64; 5]) -> [u32; 5]
+    ensures { λ r. ⌜ r ≡ five (λ s. ones (at words s)) ⌝ }
+{
+    [
+        u64::count_ones(words[0]),
+        u64::count_ones(words[1]),
+        u64::count_ones(words[2]),
+        u64::count_ones(words[3]),
+        u64::count_ones(words[4]),
+    ]
+}
+
+// The steps of an accepted line. The loop maintains that the ends and prices of the first n steps are written and their flags counted,
+// that `far` is the gap to the next end, and that the cursors stand where they do at that end.
 pub fn steps(line: &[u8]) -> Cut
     requires { ⌜ Line (now line) ⌝ }
     ensures { λ r. ⌜ r ≡ cutOf (now (line .entry)) ⌝ }
 {
-    let hedged = hedge(line);
     let mut ends = [0u32; 56];
     let mut prices = [0u32; 280];
-    let mut words = Words {
+    let mut missing = Missing {
         first: 0,
         second: 0,
         third: 0,
         fourth: 0,
         fifth: 0,
     };
-    let mut at = start(line);
+    let mut places = start();
     let mut end: u32 = 0;
-    let mut far = next_gap(at, hedged, end);
+    let mut far = next_gap(line, places, end);
     let mut n: usize = 0;
     while far < FAR {
         end = end + 1 + far;
         ends[n] = end;
-        put_prices(line, &mut prices, at, n);
-        words = marked(words, at, end, n);
-        at = passed(line, at, end);
-        far = next_gap(at, hedged, end);
+        missing = put_step(line, &mut prices, places, end, n, missing);
+        places = passed(line, places, end);
+        far = next_gap(line, places, end);
         n += 1;
     }
+    let flags = flag_words(n, missing);
     Cut {
         number: 0,
         count: n as u32,
         ends,
         prices,
-        flags: [
-            words.first,
-            words.second,
-            words.third,
-            words.fourth,
-            words.fifth,
-        ],
-        missing: [
-            u64::count_ones(words.first),
-            u64::count_ones(words.second),
-            u64::count_ones(words.third),
-            u64::count_ones(words.fourth),
-            u64::count_ones(words.fifth),
-        ],
+        flags,
+        missing: counted(flags),
     }
 }

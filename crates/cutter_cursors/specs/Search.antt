@@ -3,8 +3,10 @@ use Prim.Native.Nat.{ℕ, zero, suc, _+_, _≤_, _<_}
 use native.Mathlib.Omega.{arith}
 use native.Mathlib.Decide.{decLt, decLe}
 use mathlib.Core.Path.{_≡_, subst}
+use mathlib.Core.List.{List}
 use borrow.Author.Tests.{le-leb, lt-leb}
-use Rattle.rules.specs.Steps.{stepFrom}
+use Rattle.rules.specs.Layout.{bidCount, bidBreak}
+use Rattle.rules.specs.Steps.{stepFrom, bidStep}
 
 -- j is the first of the breaks from i up to i + n that is at least u, or i + n where there is none
 pub record FirstFrom (br : ℕ → ℕ) (u i n j : ℕ) : Type 0 where
@@ -94,3 +96,8 @@ first-moves {br} {v} {n} {j} p l h rise =
           ];
       reached = λ m. rise j m;
     }
+
+-- in the bid of schedule s
+pub bid-first : (w : List ℕ) (s u : ℕ) → First (bidBreak w s) u (bidCount w s) (bidStep w s u)
+unfolding bidStep
+bid-first w s u = step-first (bidBreak w s) u (bidCount w s)

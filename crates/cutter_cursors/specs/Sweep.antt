@@ -1,127 +1,70 @@
--- What the sweep holds after each end, as functions of the line and that end, and what each of its moves gives.
-use Prim.Native.Nat.{ℕ, suc, _+_, _*_, _-_, _^_, _≤_, _<_, min}
+-- Where the sweep stands at a step, as functions of the line and the step's upper end, and what each of its moves gives.
+use Prim.Native.Nat.{ℕ, zero, suc, _+_, _-_, _<_, min}
 use mathlib.Core.Path.{_≡_}
 use mathlib.Core.Bool.{cond}
 use mathlib.Core.List.{List}
-use lib.ListN.{length, set}
-use lib.Dec.{eqb, ltb}
-use Rattle.rules.specs.Layout.{quantityMost, bidCount, bidBreak, bidPrice}
+use lib.ListN.{length}
+use lib.Dec.{ltb}
+use Rattle.rules.specs.Layout.{hedge, bidCount, bidBreak}
 use Rattle.rules.specs.Steps.{bidStep}
-use Rattle.rules.specs.Payments.{bit}
 use Rattle.laws.specs.Accepted.{AcceptedLine}
-use Rattle.cutter_cursors.specs.declared.cursors.Cursor.{Cursor}
 use Rattle.cutter_cursors.specs.declared.cursors.Sweep.{Sweep}
-use Rattle.cutter_cursors.specs.declared.cursors.Words.{Words}
 
 -- an accepted line's bytes
 pub record Line (w : List ℕ) : Type 0 where
   pub long : length w ≡ 660
   pub accepted : AcceptedLine w
 
--- a bid whose words can be read
-pub record BidRead (w : List ℕ) (s : ℕ) : Type 0 where
-  pub long : length w ≡ 660
-  pub schedule : s < 5
-  pub some : 0 < bidCount w s
-  pub few : bidCount w s ≤ 11
-
 -- above every break and hedge
 abbrev pub past : ℕ
 past = 4294967295
 
--- x where it is above e
-unfoldable pub above : ℕ → ℕ → ℕ
-above e x = cond (ltb e x) x past
+-- the step of the bid of schedule s, counted from 1, that gives the price of a step which ends at u: the first whose break is at least u,
+-- or the bid's last
+unfoldable pub placeOf : List ℕ → ℕ → ℕ → ℕ
+placeOf w s u = min (suc (bidStep w s u)) (bidCount w s)
 
--- the cursor of schedule s at step j of its bid
-unfoldable pub cursorAt : List ℕ → ℕ → ℕ → Cursor
-cursorAt w s j = record { at = j; head = bidBreak w s j }
+-- all of them
+unfoldable pub sweepOf : List ℕ → ℕ → Sweep
+sweepOf w u =
+    record { first = placeOf w 0 u; second = placeOf w 1 u; third = placeOf w 2 u; fourth = placeOf w 3 u; fifth = placeOf w 4 u }
 
--- the one at the first break above e, or at the bid's last
-unfoldable pub cursorFor : List ℕ → ℕ → ℕ → Cursor
-cursorFor w s e = cursorAt w s (min (bidStep w s (suc e)) (bidCount w s - 1))
+-- before the first end
+unfoldable pub firstPlaces : Sweep
+firstPlaces = record { first = 1; second = 1; third = 1; fourth = 1; fifth = 1 }
 
--- all of them after the end e
-unfoldable pub sweepFor : List ℕ → ℕ → Sweep
-sweepFor w e =
-    record { first = cursorFor w 0 e; second = cursorFor w 1 e; third = cursorFor w 2 e; fourth = cursorFor w 3 e; fifth = cursorFor w 4 e }
+-- on an accepted line, `at` is the place of the cursor of schedule s at a step which ends at u
+pub record Standing (w : List ℕ) (s at u : ℕ) : Type 0 where
+  pub line : Line w
+  pub schedule : s < 5
+  pub place : at ≡ placeOf w s u
+
+-- and `places` those of all five
+pub record SweepAt (w : List ℕ) (places : Sweep) (u : ℕ) : Type 0 where
+  pub line : Line w
+  pub same : places ≡ sweepOf w u
 
 -- the break at which a cursor moves on, none at the bid's last step
-unfoldable pub stopOf : Cursor → ℕ → ℕ
-stopOf c last = cond (ltb (c .at) last) (c .head) past
+unfoldable pub stopOf : List ℕ → ℕ → ℕ → ℕ
+stopOf w s at = cond (ltb at (bidCount w s)) (bidBreak w s (at - 1)) past
 
--- the moves past the end u
-unfoldable pub stepAfter : Cursor → ℕ → ℕ → ℕ
-stepAfter c u last = min (c .at + bit (eqb (c .head) u)) last
+-- a gap that no number above an end has
+abbrev pub far : ℕ
+far = 2147483648
 
-unfoldable pub cursorMoved : List ℕ → ℕ → Cursor → ℕ → Cursor
-cursorMoved w s c u = cursorAt w s (stepAfter c u (bidCount w s - 1))
-
-unfoldable pub sweepMoved : List ℕ → Sweep → ℕ → Sweep
-sweepMoved w at u =
-    record {
-      first = cursorMoved w 0 (at .first) u;
-      second = cursorMoved w 1 (at .second) u;
-      third = cursorMoved w 2 (at .third) u;
-      fourth = cursorMoved w 3 (at .fourth) u;
-      fifth = cursorMoved w 4 (at .fifth) u;
-    }
-
--- each cursor stands at a step of its bid
-pub record SweepWithin (w : List ℕ) (at : Sweep) : Type 0 where
-  pub first : at .first .at < bidCount w 0
-  pub second : at .second .at < bidCount w 1
-  pub third : at .third .at < bidCount w 2
-  pub fourth : at .fourth .at < bidCount w 3
-  pub fifth : at .fifth .at < bidCount w 4
-
--- how far x is above e, counted from 0; 2 ^ 31 or more where it is not above
+-- how far x is above e, counted from 0; `far` or more where it is not above
 unfoldable pub gapOf : ℕ → ℕ → ℕ
 gapOf x e = cond (ltb e x) (x - suc e) (x + 4294967296 - suc e)
 
-unfoldable pub nextGap : Sweep → ℕ → ℕ → ℕ
-nextGap at h e =
-    min (min (min (gapOf (at .first .head) e) (gapOf (at .second .head) e)) (min (gapOf (at .third .head) e) (gapOf (at .fourth .head) e)))
-    (min (gapOf (at .fifth .head) e) (gapOf h e))
+-- the gap from the end e to the break at the cursor of schedule s
+unfoldable pub breakGap : List ℕ → ℕ → ℕ → ℕ
+breakGap w e s = gapOf (bidBreak w s (placeOf w s (suc e) - 1)) e
 
--- the breaks, the hedge and the end are within the limit
-pub record Limited (at : Sweep) (h e : ℕ) : Type 0 where
-  pub hedge : h ≤ quantityMost
-  pub end : e ≤ quantityMost
-  pub first : at .first .head ≤ quantityMost
-  pub second : at .second .head ≤ quantityMost
-  pub third : at .third .head ≤ quantityMost
-  pub fourth : at .fourth .head ≤ quantityMost
-  pub fifth : at .fifth .head ≤ quantityMost
+-- the least of h and of f 0 to f (n - 1)
+unfoldable pub leastTo : ℕ → ℕ → (ℕ → ℕ) → ℕ
+leastTo h zero f = h
+leastTo h (suc n) f = min (leastTo h n f) (f n)
 
--- the words of flags with those of step n, which ends at u, where each has room for it
-pub record Room (x f n : ℕ) : Type 0 where
-  pub word : x < 2 ^ n
-  pub flag : f ≤ 1
-  pub step : n < 56
-
-pub record Markable (words : Words) (at : Sweep) (u n : ℕ) : Type 0 where
-  pub first : Room (words .first) (bit (ltb (at .first .head) u)) n
-  pub second : Room (words .second) (bit (ltb (at .second .head) u)) n
-  pub third : Room (words .third) (bit (ltb (at .third .head) u)) n
-  pub fourth : Room (words .fourth) (bit (ltb (at .fourth .head) u)) n
-  pub fifth : Room (words .fifth) (bit (ltb (at .fifth .head) u)) n
-
-abbrev pub withFlag : ℕ → ℕ → ℕ → ℕ
-withFlag word flag n = flag * 2 ^ n + word
-
-unfoldable pub wordsMarked : Words → Sweep → ℕ → ℕ → Words
-wordsMarked words at u n =
-    record {
-      first = withFlag (words .first) (bit (ltb (at .first .head) u)) n;
-      second = withFlag (words .second) (bit (ltb (at .second .head) u)) n;
-      third = withFlag (words .third) (bit (ltb (at .third .head) u)) n;
-      fourth = withFlag (words .fourth) (bit (ltb (at .fourth .head) u)) n;
-      fifth = withFlag (words .fifth) (bit (ltb (at .fifth .head) u)) n;
-    }
-
--- the rows of prices with those of step n
-unfoldable pub pricesPut : List ℕ → List ℕ → Sweep → ℕ → List ℕ
-pricesPut w l at n =
-    set (set (set (set (set l n (bidPrice w 0 (at .first .at))) (56 + n) (bidPrice w 1 (at .second .at))) (112 + n) (bidPrice w 2 (at .third .at))) (168 + n) (bidPrice w 3 (at .fourth .at))) (224 + n)
-    (bidPrice w 4 (at .fifth .at))
+-- the least gap from the end e, over the hedge and the five cursors
+unfoldable pub nextGap : List ℕ → ℕ → ℕ
+nextGap w e = leastTo (gapOf (hedge w) e) 5 (breakGap w e)

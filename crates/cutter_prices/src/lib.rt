@@ -1,53 +1,95 @@
-// What the cutter writes of a step: its five prices, and its missing-price flag in each schedule's word.
+// What the cutter writes of a step: its price and its missing-price flag in each schedule (document 01, "Steps and prices"), read from the
+// lent line. The flagged steps of a schedule are a run at the end, so the flags are counted, and a schedule's word is made of the count.
 use cutter_cursors::cursors::Sweep;
-use cutter_cursors::cursors::Words;
+use layout::bids::bid_break;
 use layout::bids::bid_price;
 use numbers::bit;
-use numbers::wide;
+use numbers::index;
 ghost use mathlib.Core.Path.{_≡_};
-ghost use Prim.Native.Nat.{_<_};
-ghost use lib.Dec.{ltb};
-ghost use Rattle.rules.specs.Payments as paper;
-ghost use Rattle.cutter_cursors.specs.Sweep.{Line, SweepWithin, Room, Markable};
-ghost use Rattle.cutter_cursors.specs.Sweep.{withFlag, wordsMarked, pricesPut};
+ghost use mathlib.Core.List.{[], _∷_};
+ghost use Prim.Native.Nat.{_+_, _*_, _≤_, _<_};
+ghost use lib.ListN.{set};
+ghost use Rattle.rules.specs.Steps.{price, flag};
+ghost use Rattle.cutter_cursors.specs.Sweep.{Standing, SweepAt};
+ghost use Rattle.cutter_prices.specs.Step.{stepPrice, pricesPut, MissingMost, missingWith, runWord};
 
-// The flag of a step that ends at u while the cursor stands at a break: 1 where that is below u.
-fn flag_of(head: u32, u: u32) -> u64
-    ensures { λ r. ⌜ r ≡ paper.bit (ltb head u) ⌝ }
-{
-    wide(bit(head < u))
+// A step's uncapped price in one schedule, and its flag: 1 where no break of the bid is at least the step's end.
+pub struct StepPrice {
+    pub price: u32,
+    pub flag: u32,
 }
 
-// A word of flags with the flag of step n.
-fn with_flag(word: u64, flag: u64, n: usize) -> u64
-    requires { ⌜ Room word flag n ⌝ }
-    ensures { λ r. ⌜ r ≡ withFlag word flag n ⌝ }
-{
-    word | (flag << n)
+// How many steps are flagged in each schedule.
+pub struct Missing {
+    pub first: usize,
+    pub second: usize,
+    pub third: usize,
+    pub fourth: usize,
+    pub fifth: usize,
 }
 
-// The five words with the flags of step n, which ends at u.
-pub fn marked(words: Words, at: Sweep, u: u32, n: usize) -> Words
-    requires { ⌜ Markable words at u n ⌝ }
-    ensures { λ r. ⌜ r ≡ wordsMarked words at u n ⌝ }
+// The price and the flag of the step that ends at u, in schedule s, whose cursor stands at bid step `at`, counted from 1.
+fn step_price(line: &[u8], s: usize, at: usize, u: u32) -> StepPrice
+    requires { ⌜ Standing (now line) s at u ⌝ }
+    ensures { λ r. ⌜ r ≡ stepPrice (now (line .entry)) s u ⌝ }
 {
-    Words {
-        first: with_flag(words.first, flag_of(at.first.head, u), n),
-        second: with_flag(words.second, flag_of(at.second.head, u), n),
-        third: with_flag(words.third, flag_of(at.third.head, u), n),
-        fourth: with_flag(words.fourth, flag_of(at.fourth.head, u), n),
-        fifth: with_flag(words.fifth, flag_of(at.fifth.head, u), n),
+    StepPrice {
+        price: bid_price(line, s, at - 1),
+        flag: bit(bid_break(line, s, at - 1) < u),
     }
 }
 
-// The prices of step n, into each schedule's row.
-pub fn put_prices(line: &[u8], prices: &mut [u32; 280], at: Sweep, n: usize)
-    requires { ⌜ Line (now line) × SweepWithin (now line) at × (n < 56) ⌝ }
-    ensures { λ _. ⌜ now (prices .exit) ≡ pricesPut (now (line .entry)) (now (prices .entry)) at n ⌝ }
+// Writes the price of step n, which ends at u, into the row of schedule s, and answers the flag.
+fn put_price(line: &[u8], prices: &mut [u32; 280], s: usize, at: usize, u: u32, n: usize) -> usize
+    requires { ⌜ Standing (now line) s at u × (n < 56) ⌝ }
+    ensures { λ r. ⌜ r ≡ flag (now (line .entry)) s u ⌝ }
+    ensures { λ _. ⌜ now (prices .exit) ≡ set (now (prices .entry)) (56 * s + n) (price (now (line .entry)) s u) ⌝ }
 {
-    prices[n] = bid_price(line, 0, at.first.at);
-    prices[56 + n] = bid_price(line, 1, at.second.at);
-    prices[112 + n] = bid_price(line, 2, at.third.at);
-    prices[168 + n] = bid_price(line, 3, at.fourth.at);
-    prices[224 + n] = bid_price(line, 4, at.fifth.at);
+    let p = step_price(line, s, at, u);
+    prices[56 * s + n] = p.price;
+    index(p.flag)
+}
+
+// Writes the prices of step n, which ends at u, into the five rows, and answers how many steps are flagged so far in each schedule.
+pub fn put_step(
+    line: &[u8],
+    prices: &mut [u32; 280],
+    places: Sweep,
+    u: u32,
+    n: usize,
+    missing: Missing,
+) -> Missing
+    requires { ⌜ SweepAt (now line) places u × (n < 56) × MissingMost missing n ⌝ }
+    ensures { λ r. ⌜ r ≡ missingWith (now (line .entry)) u missing ⌝ }
+    ensures { λ _. ⌜ now (prices .exit) ≡ pricesPut (now (line .entry)) (now (prices .entry)) u n ⌝ }
+{
+    Missing {
+        first: missing.first + put_price(line, prices, 0, places.first, u, n),
+        second: missing.second + put_price(line, prices, 1, places.second, u, n),
+        third: missing.third + put_price(line, prices, 2, places.third, u, n),
+        fourth: missing.fourth + put_price(line, prices, 3, places.fourth, u, n),
+        fifth: missing.fifth + put_price(line, prices, 4, places.fifth, u, n),
+    }
+}
+
+// The word of flags of n steps of which the last m are flagged.
+fn flag_word(n: usize, m: usize) -> u64
+    requires { ⌜ (n ≤ 56) × (m ≤ n) ⌝ }
+    ensures { λ r. ⌜ r ≡ runWord n m ⌝ }
+{
+    (1u64 << n) - (1u64 << (n - m))
+}
+
+// The five words.
+pub fn flag_words(n: usize, m: Missing) -> [u64; 5]
+    requires { ⌜ (n ≤ 56) × MissingMost m n ⌝ }
+    ensures { λ r. ⌜ r ≡ (runWord n (m .first) ∷ runWord n (m .second) ∷ runWord n (m .third) ∷ runWord n (m .fourth) ∷ runWord n (m .fifth) ∷ []) ⌝ }
+{
+    [
+        flag_word(n, m.first),
+        flag_word(n, m.second),
+        flag_word(n, m.third),
+        flag_word(n, m.fourth),
+        flag_word(n, m.fifth),
+    ]
 }

@@ -1,16 +1,18 @@
 -- Lists that are filled one step at a time: padded lists, rows of 56, words of flags.
-use Prim.Native.Nat.{ℕ, zero, suc, _+_, _*_, _-_, _/_, _^_, _≤_, _<_}
-use native.Mathlib.Nat.{zero-add, suc-add, pow-suc, mul-assoc}
+use Prim.Native.Nat.{ℕ, zero, suc, _+_, _*_, _-_, _/_, _≤_, _<_}
+use native.Mathlib.Nat.{zero-add, suc-add, pow-suc}
 use native.Mathlib.Omega.{arith}
+use native.Mathlib.Decide.{decLt}
 use mathlib.Core.Path.{_≡_, refl, sym, _∙_, ap, ap₂}
 use mathlib.Core.List.{List, [], _∷_, _++_, append-assoc, append-nil}
 use lib.ListN.{length, getD, take, set, replicate, length-set}
-use lib.Seq.{take-suc, set-at, set-append-left, append-snoc, length-take-le}
+use lib.Seq.{take-suc, take-all, set-at, set-append-left, append-snoc, length-take-le}
 use lib.Pow.{pow-pos}
 use lib.Count.{ones, onesIn, ones-step}
 use Rattle.rules.specs.Fold.{padded, joined, sumOf}
 use Rattle.rules.specs.Cutting.{bits}
 use Rattle.laws.specs.Folds.{joined-length}
+use Rattle.cutter_prices.specs.Step.{putTo, runWord}
 
 -- the first n of a list, with zeros behind
 zeros-more : (m n : ℕ) → n < m → replicate {A = ℕ} (m - n) 0 ≡ 0 ∷ replicate (m - suc n) 0
@@ -28,11 +30,7 @@ padded-set m n l a b =
     ∙ sym (append-snoc (take n l) (getD l n 0) (replicate (m - suc n) 0))
     ∙ rw (take-suc l n 0 a))
 
--- place n of each of the first m rows of 56
-unfoldable pub putTo : ℕ → List ℕ → ℕ → (ℕ → ℕ) → List ℕ
-putTo zero l n v = l
-putTo (suc m) l n v = set (putTo m l n v) (56 * m + n) (v m)
-
+-- place n of each row
 set-right : (a b : List ℕ) (i x : ℕ) → set (a ++ b) (length a + i) x ≡ a ++ set b i x
 set-right [] b i x = rw (zero-add i)
 set-right (y ∷ a) b i x = rw (suc-add (length a) i) (ap (_∷_ y) (set-right a b i x))
@@ -62,24 +60,66 @@ rows-all m n f g v h len same =
     ∙ append-nil (joined m (λ s. set (f s) n (v s)))
     ∙ joined-same m (λ s. set (f s) n (v s)) g same
 
--- a word of flags by its steps
-pub bits-more : (l : List ℕ) (n : ℕ) → n < length l → bits (take (suc n) l) ≡ getD l n 0 * 2 ^ n + bits (take n l)
-unfolding bits
-bits-more [] n h = absurd (omega arith)
-bits-more (x ∷ l) zero h = omega arith
-bits-more (x ∷ l) (suc n) h =
-    let r = bits-more l n (omega arith) in
-    let p = mul-assoc (getD l n 0) (2 ^ n) 2 in
-    rw (r, pow-suc 2 n) (omega arith)
+-- the sum of the first n of a list, each at most 1
+pub sum-more : (l : List ℕ) (n : ℕ) → n < length l → sumOf (take (suc n) l) ≡ sumOf (take n l) + getD l n 0
+unfolding sumOf
+sum-more [] n h = absurd (omega arith)
+sum-more (x ∷ l) zero h = omega arith
+sum-more (x ∷ l) (suc n) h = let r = sum-more l n (omega arith) in omega arith
 
-pub bits-below : (l : List ℕ) → ((k : ℕ) → getD l k 0 ≤ 1) → (n : ℕ) → bits (take n l) < 2 ^ n
-unfolding bits
-bits-below l h zero = omega arith
-bits-below [] h (suc n) = pow-pos (suc n)
-bits-below (x ∷ l) h (suc n) =
-    let r = bits-below l (λ k. h (suc k)) n in
+pub sum-most : (l : List ℕ) → ((k : ℕ) → getD l k 0 ≤ 1) → (n : ℕ) → sumOf (take n l) ≤ n
+unfolding sumOf
+sum-most l h zero = omega arith
+sum-most [] h (suc n) = omega arith
+sum-most (x ∷ l) h (suc n) =
+    let r = sum-most l (λ k. h (suc k)) n in
     let a = h 0 in
-    rw (pow-suc 2 n) (omega arith)
+    omega arith
+
+-- flags of which those that are set are a run at the end
+abbrev pub Run : List ℕ → Type 0
+Run l = (j k : ℕ) → j ≤ k → k < length l → getD l j 0 ≡ 1 → getD l k 0 ≡ 1
+
+all-ones : (l : List ℕ) → ((k : ℕ) → k < length l → getD l k 0 ≡ 1) → sumOf l ≡ length l
+unfolding sumOf
+all-ones [] h = refl
+all-ones (x ∷ l) h =
+    let r = all-ones l (λ k m. h (suc k) (omega arith)) in
+    let a = h 0 (omega arith) in
+    omega arith
+
+-- their word by how many they are
+run-none : (n m : ℕ) → m ≤ n → 0 + 2 * runWord n m ≡ runWord (suc n) (0 + m)
+unfolding runWord
+run-none n m h =
+    let e : suc n - (0 + m) ≡ suc (n - m) = omega arith in
+    rw (e, pow-suc 2 n, pow-suc 2 (n - m)) (omega arith)
+
+run-one : (n : ℕ) → 1 + 2 * runWord n n ≡ runWord (suc n) (1 + n)
+unfolding runWord
+run-one n =
+    let e : n - n ≡ 0 = omega arith in
+    let f : suc n - (1 + n) ≡ 0 = omega arith in
+    let p = pow-pos n in
+    rw (e, f, pow-suc 2 n) (omega arith)
+
+pub run-bits : (l : List ℕ) → ((k : ℕ) → getD l k 0 ≤ 1) → Run l → bits l ≡ runWord (length l) (sumOf l)
+unfolding bits sumOf
+run-bits [] h r = unfold runWord in refl
+run-bits (x ∷ l) h r =
+    let t = run-bits l (λ k. h (suc k)) (λ j k a b. r (suc j) (suc k) (omega arith) (omega arith)) in
+    let a = h 0 in
+    elim (decLt 0 x) [
+      | yes p ↦
+          let e : x ≡ 1 = omega arith in
+          let o = all-ones l (λ k b. r 0 (suc k) (omega arith) (omega arith) e) in
+          rw (e, t, o) (run-one (length l))
+      | no p ↦
+          let e : x ≡ 0 = omega arith in
+          let m = sum-most l (λ k. h (suc k)) (length l) in
+          let q = ap sumOf (take-all (length l) l (omega arith)) in
+          rw (e, t) (run-none (length l) (sumOf l) (omega arith))
+    ]
 
 -- its ones are its flags that are set
 pub ones-bits : (l : List ℕ) → ((k : ℕ) → getD l k 0 ≤ 1) → ones (bits l) ≡ sumOf l

@@ -1,32 +1,28 @@
 -- `cutter_cursors::cursors::moved` meets its contract.
 use native.Mathlib.Omega.{arith}
-use borrow.Author.Needs.{needs}
-use Rattle.cutter_cursors.proofs.cursors.Moves.{moved-is, after-below}
+use lib.Dec.{eqb}
+use Rattle.cutter_cursors.specs.Places.{place-least, place-most}
+use Rattle.cutter_cursors.proofs.cursors.Moves.{bit-one, moved-is}
 use Rattle.cutter_cursors.proofs.cursors.moved.Statement.{statement}
 use Rattle.cutter_cursors.proofs.cursors.moved.Tie as tie
 
-bid-count-requires : tie.Need-bid-count-requires
-bid-count-requires c κs = search needs
+stop-of-requires : tie.Need-stop-of-requires
+stop-of-requires c κs =
+    let at-start = c .before in
+    (at-start .pre .0 .line .long, at-start .pre .0 .schedule, place-least (at-start .pre .0), place-most (at-start .pre .0))
 
-sub-step-after : tie.Need-sub-step-after
-sub-step-after c = search needs
+same-requires : tie.Need-same-requires
+same-requires c κs = tt
 
-step-after-requires : tie.Need-step-after-requires
-step-after-requires c κs =
-    let at-start = c .before .before in
-    (omega (arith, c .bid-count .ensures, at-start .pre .1), omega (arith, c .bid-count .ensures, at-start .pre .0 .few), at-start .pre .2)
-
-bid-break-requires : tie.Need-bid-break-requires
-bid-break-requires c κs =
+add-result : tie.Need-add-result
+add-result c =
     let at-start = c .before .before .before in
-    let after-below′ = after-below _ _ _ (c .step-after .ensures) (c .before .bid-count .ensures) (at-start .pre .0 .some)
-    (at-start .pre .0 .few) in
-    (at-start .pre .0 .long, at-start .pre .0 .schedule, after-below′)
+    omega (arith, place-most (at-start .pre .0), bit-one (eqb (c .before .stop-of .result) (at-start .args .u)) (c .same .ensures))
 
 returns : tie.Need-returns
-returns c = moved-is _ _ _ _ (c .before .before .bid-count .ensures) (c .before .step-after .ensures) (c .bid-break .ensures)
+returns c =
+    let at-start = c .before .before .before in
+    moved-is (at-start .pre .0) (at-start .pre .1) (c .before .stop-of .ensures) (c .same .ensures)
 
 pub moved-spec : {M : Type 1} → statement M
-moved-spec =
-    tie.close
-    (tie.spec bid-count-requires sub-step-after step-after-requires bid-break-requires returns)
+moved-spec = tie.close (tie.spec stop-of-requires same-requires add-result returns)

@@ -1,27 +1,29 @@
 -- `cutter_cursors::cursors::next_gap` meets its contract.
 use native.Mathlib.Omega.{arith}
+use Rattle.cutter_cursors.specs.Gaps.{sweep-stays}
+use Rattle.cutter_cursors.specs.Places.{hedge-limit, standing-first, standing-second, standing-third, standing-fourth, standing-fifth}
 use Rattle.cutter_cursors.proofs.cursors.Moves.{next-is}
 use Rattle.cutter_cursors.proofs.cursors.next_gap.Statement.{statement}
 use Rattle.cutter_cursors.proofs.cursors.next_gap.Tie as tie
 
-gap-requires : tie.Need-gap-requires
-gap-requires c κs = (c .pre .first, c .pre .end)
+break-gap-requires : tie.Need-break-gap-requires
+break-gap-requires c κs = (standing-first (c .before .pre .0), c .before .pre .1)
 
-gap-requires-2 : tie.Need-gap-requires-2
-gap-requires-2 c κs = (c .before .pre .second, c .before .pre .end)
+break-gap-requires-2 : tie.Need-break-gap-requires-2
+break-gap-requires-2 c κs = (standing-second (c .before .before .pre .0), c .before .before .pre .1)
 
 lesser-requires : tie.Need-lesser-requires
 lesser-requires c κs = tt
 
-gap-requires-3 : tie.Need-gap-requires-3
-gap-requires-3 c κs =
-    let at-start = c .before .before .before in
-    (at-start .pre .third, at-start .pre .end)
-
-gap-requires-4 : tie.Need-gap-requires-4
-gap-requires-4 c κs =
+break-gap-requires-3 : tie.Need-break-gap-requires-3
+break-gap-requires-3 c κs =
     let at-start = c .before .before .before .before in
-    (at-start .pre .fourth, at-start .pre .end)
+    (standing-third (at-start .pre .0), at-start .pre .1)
+
+break-gap-requires-4 : tie.Need-break-gap-requires-4
+break-gap-requires-4 c κs =
+    let at-start = c .before .before .before .before .before in
+    (standing-fourth (at-start .pre .0), at-start .pre .1)
 
 lesser-requires-2 : tie.Need-lesser-requires-2
 lesser-requires-2 c κs = tt
@@ -29,15 +31,20 @@ lesser-requires-2 c κs = tt
 lesser-requires-3 : tie.Need-lesser-requires-3
 lesser-requires-3 c κs = tt
 
-gap-requires-5 : tie.Need-gap-requires-5
-gap-requires-5 c κs =
-    let at-start = c .before .before .before .before .before .before .before in
-    (at-start .pre .fifth, at-start .pre .end)
-
-gap-requires-6 : tie.Need-gap-requires-6
-gap-requires-6 c κs =
+break-gap-requires-5 : tie.Need-break-gap-requires-5
+break-gap-requires-5 c κs =
     let at-start = c .before .before .before .before .before .before .before .before in
-    (omega (arith, at-start .pre .hedge, at-start .pre .fifth), at-start .pre .end)
+    (standing-fifth (at-start .pre .0), at-start .pre .1)
+
+hedge-requires : tie.Need-hedge-requires
+hedge-requires c κs =
+    let at-start = c .before .before .before .before .before .before .before .before .before in
+    at-start .pre .0 .line .long
+
+gap-requires : tie.Need-gap-requires
+gap-requires c κs =
+    let at-start = c .before .before .before .before .before .before .before .before .before .before in
+    (omega (arith, c .hedge .ensures, hedge-limit (at-start .pre .0 .line)), at-start .pre .1)
 
 lesser-requires-4 : tie.Need-lesser-requires-4
 lesser-requires-4 c κs = tt
@@ -47,18 +54,19 @@ lesser-requires-5 c κs = tt
 
 returns : tie.Need-returns
 returns c =
-    let after-lesser3 = c .before .before .before .before in
-    let after-lesser = after-lesser3 .before .before .before .before in
-    next-is _ _ _
-    (after-lesser .before .before .gap .ensures) (after-lesser .before .gap2 .ensures) (after-lesser .lesser .ensures)
-    (after-lesser3 .before .before .before .gap3 .ensures)
-    (after-lesser3 .before .before .gap4 .ensures)
-    (after-lesser3 .before .lesser2 .ensures) (after-lesser3 .lesser3 .ensures)
-    (c .before .before .before .gap5 .ensures) (c .before .before .gap6 .ensures) (c .before .lesser4 .ensures)
-    (c .lesser5 .ensures)
+    let after-break-gap5 = c .before .before .before .before in
+    let after-break-gap3 = after-break-gap5 .before .before .before .before in
+    let at-start = after-break-gap3 .before .before .before .before .before in
+    let r = next-is _ _ (after-break-gap3 .before .before .before .break-gap .ensures)
+    (after-break-gap3 .before .before .break-gap2 .ensures) (after-break-gap3 .before .lesser .ensures)
+    (after-break-gap3 .break-gap3 .ensures) (after-break-gap5 .before .before .before .break-gap4 .ensures)
+    (after-break-gap5 .before .before .lesser2 .ensures) (after-break-gap5 .before .lesser3 .ensures)
+    (after-break-gap5 .break-gap5 .ensures) (c .before .before .before .hedge .ensures) (c .before .before .gap .ensures)
+    (c .before .lesser4 .ensures) (c .lesser5 .ensures) in
+    (r, sweep-stays _ (at-start .pre .0) r)
 
 pub next-gap-spec : {M : Type 1} → statement M
 next-gap-spec =
     tie.close
-    (tie.spec gap-requires gap-requires-2 lesser-requires gap-requires-3 gap-requires-4 lesser-requires-2
-    lesser-requires-3 gap-requires-5 gap-requires-6 lesser-requires-4 lesser-requires-5 returns)
+    (tie.spec break-gap-requires break-gap-requires-2 lesser-requires break-gap-requires-3 break-gap-requires-4 lesser-requires-2
+    lesser-requires-3 break-gap-requires-5 hedge-requires gap-requires lesser-requires-4 lesser-requires-5 returns)

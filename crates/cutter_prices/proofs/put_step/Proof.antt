@@ -1,0 +1,75 @@
+-- `cutter_prices::put_step` meets its contract.
+use native.Mathlib.Omega.{arith}
+use Rattle.cutter_cursors.specs.Places.{standing-first, standing-second, standing-third, standing-fourth, standing-fifth}
+use Rattle.cutter_prices.proofs.Written.{flag-fits, missing-is, prices-put}
+use Rattle.cutter_prices.proofs.put_step.Statement.{statement}
+use Rattle.cutter_prices.proofs.put_step.Tie as tie
+
+put-price-requires : tie.Need-put-price-requires
+put-price-requires c κs = (standing-first (c .before .before .pre .0), c .before .before .pre .1)
+
+add-t9 : tie.Need-add-t9
+add-t9 c =
+    let at-start = c .before .before .before .before in
+    omega (arith, at-start .pre .1, at-start .pre .2 .first, flag-fits _ _ _ (c .before .put-price .ensures .0))
+
+put-price-requires-2 : tie.Need-put-price-requires-2
+put-price-requires-2 c κs =
+    let at-start = c .before .before .before .before .before in
+    (standing-second (at-start .pre .0), at-start .pre .1)
+
+add-t12 : tie.Need-add-t12
+add-t12 c =
+    let at-start = c .before .before .before .before .before .before .before in
+    omega (arith, at-start .pre .1, at-start .pre .2 .second, flag-fits _ _ _ (c .before .put-price2 .ensures .0))
+
+put-price-requires-3 : tie.Need-put-price-requires-3
+put-price-requires-3 c κs =
+    let at-start = c .before .before .before .before .before .before .before .before in
+    (standing-third (at-start .pre .0), at-start .pre .1)
+
+add-t15 : tie.Need-add-t15
+add-t15 c =
+    let at-start = c .before .before .before .before .before .before .before .before .before .before in
+    omega (arith, at-start .pre .1, at-start .pre .2 .third, flag-fits _ _ _ (c .before .put-price3 .ensures .0))
+
+put-price-requires-4 : tie.Need-put-price-requires-4
+put-price-requires-4 c κs =
+    let at-start = c .before .before .before .before .before .before .before .before .before .before .before in
+    (standing-fourth (at-start .pre .0), at-start .pre .1)
+
+add-t18 : tie.Need-add-t18
+add-t18 c =
+    let at-start = c .before .before .before .before .before .before .before .before .before .before .before .before .before in
+    omega (arith, at-start .pre .1, at-start .pre .2 .fourth, flag-fits _ _ _ (c .before .put-price4 .ensures .0))
+
+put-price-requires-5 : tie.Need-put-price-requires-5
+put-price-requires-5 c κs =
+    let at-start = c .before .before .before .before .before .before .before .before .before .before .before .before .before .before in
+    (standing-fifth (at-start .pre .0), at-start .pre .1)
+
+add-t21 : tie.Need-add-t21
+add-t21 c =
+    let at-start = c .before .before .before .before .before .before .before .before .before .before .before .before .before .before .before .before in
+    omega (arith, at-start .pre .1, at-start .pre .2 .fifth, flag-fits _ _ _ (c .before .put-price5 .ensures .0))
+
+returns : tie.Need-returns
+returns c =
+    let after-put-price5 = c .before in
+    let after-put-price4 = after-put-price5 .before .before .before in
+    let after-put-price3 = after-put-price4 .before .before .before in
+    let after-put-price2 = after-put-price3 .before .before .before in
+    let after-put-price = after-put-price2 .before .before .before in
+    let missing-is′ = missing-is _ _ _ (after-put-price .put-price .ensures .0) (after-put-price2 .put-price2 .ensures .0)
+    (after-put-price3 .put-price3 .ensures .0) (after-put-price4 .put-price4 .ensures .0)
+    (after-put-price5 .put-price5 .ensures .0) in
+    let prices-put′ = prices-put _ _ _ _ (after-put-price .put-price .ensures .1) (after-put-price2 .put-price2 .ensures .1)
+    (after-put-price3 .put-price3 .ensures .1) (after-put-price4 .put-price4 .ensures .1)
+    (after-put-price5 .put-price5 .ensures .1) in
+    (missing-is′, prices-put′)
+
+pub put-step-spec : {M : Type 1} → statement M
+put-step-spec =
+    tie.close
+    (tie.spec put-price-requires add-t9 put-price-requires-2 add-t12 put-price-requires-3 add-t15 put-price-requires-4
+    add-t18 put-price-requires-5 add-t21 returns)

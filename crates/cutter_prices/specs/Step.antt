@@ -1,0 +1,43 @@
+-- What the cutter writes of a step, by the definitions of `price` and `flag`.
+use Prim.Native.Nat.{ℕ, zero, suc, _+_, _*_, _-_, _^_, _≤_}
+use mathlib.Core.List.{List}
+use lib.ListN.{set}
+use Rattle.rules.specs.Steps.{price, flag}
+use Rattle.cutter_prices.specs.declared.StepPrice.{StepPrice}
+use Rattle.cutter_prices.specs.declared.Missing.{Missing}
+
+-- the uncapped price and the flag of the step that ends at u, in schedule s
+unfoldable pub stepPrice : List ℕ → ℕ → ℕ → StepPrice
+stepPrice w s u = record { price = price w s u; flag = flag w s u }
+
+-- l with v s at place n of row s, for the first m rows of 56
+unfoldable pub putTo : ℕ → List ℕ → ℕ → (ℕ → ℕ) → List ℕ
+putTo zero l n v = l
+putTo (suc m) l n v = set (putTo m l n v) (56 * m + n) (v m)
+
+-- the five rows of prices with those of step n, which ends at u
+unfoldable pub pricesPut : List ℕ → List ℕ → ℕ → ℕ → List ℕ
+pricesPut w l u n = putTo 5 l n (λ s. price w s u)
+
+-- at most n steps are flagged in each schedule
+pub record MissingMost (m : Missing) (n : ℕ) : Type 0 where
+  pub first : m .first ≤ n
+  pub second : m .second ≤ n
+  pub third : m .third ≤ n
+  pub fourth : m .fourth ≤ n
+  pub fifth : m .fifth ≤ n
+
+-- how many are flagged with the step that ends at u
+unfoldable pub missingWith : List ℕ → ℕ → Missing → Missing
+missingWith w u m =
+    record {
+      first = m .first + flag w 0 u;
+      second = m .second + flag w 1 u;
+      third = m .third + flag w 2 u;
+      fourth = m .fourth + flag w 3 u;
+      fifth = m .fifth + flag w 4 u;
+    }
+
+-- the word of n flags of which the last m are set
+unfoldable pub runWord : ℕ → ℕ → ℕ
+runWord n m = 2 ^ n - 2 ^ (n - m)
