@@ -10,7 +10,7 @@ use Rattle.rules.specs.Steps.{bidStep}
 use Rattle.laws.specs.Accepted.{AcceptedBid}
 use Rattle.cutter_cursors.specs.Search.{bid-first}
 use Rattle.cutter_cursors.specs.Sweep.{SweepAt, placeOf, sweepOf, far, gapOf, breakGap, leastTo, nextGap}
-use Rattle.cutter_cursors.specs.Places.{place-found, rises-next, step-stays}
+use Rattle.cutter_cursors.specs.Places.{place-found, rises-next, step-stays, sweep-is}
 use Rattle.cutter_cursors.specs.declared.cursors.Sweep.{Sweep}
 
 -- a gap to a number above the end, and to another
@@ -99,14 +99,7 @@ sweep-same w e =
     let p : (s : ℕ) → s < 5 → placeOf w s (suc e) ≡ placeOf w s (e + 1 + nextGap w e) =
     λ s l. place-stays w e (nextGap w e) s (least-term (gapOf (hedge w) e) 5 (breakGap w e) s l)
     in
-    λ i.
-    record {
-      first = p 0 (omega arith) i;
-      second = p 1 (omega arith) i;
-      third = p 2 (omega arith) i;
-      fourth = p 3 (omega arith) i;
-      fifth = p 4 (omega arith) i;
-    }
+    sweep-is w (e + 1 + nextGap w e) (p 0 (omega arith)) (p 1 (omega arith)) (p 2 (omega arith)) (p 3 (omega arith)) (p 4 (omega arith))
 
 -- so at the next end all five do
 pub sweep-stays : {w : List ℕ} {places : Sweep} (e : ℕ) {g : ℕ} → SweepAt w places (suc e) → g ≡ nextGap w e → SweepAt w places (e + 1 + g)

@@ -62,7 +62,13 @@ module _ {w : List ℕ} {s at u : ℕ} (h : Standing w s at u) where
   pub place-read : (length w ≡ 660) × (s < 5) × (at - 1 < 11)
   place-read = let a = place-least in let b = place-most in (h .line .long, h .schedule, omega arith)
 
--- each of the five
+-- five places that are those at a step which ends at u
+pub sweep-is : (w : List ℕ) (u : ℕ) {a b c d e : ℕ} → a ≡ placeOf w 0 u → b ≡ placeOf w 1 u → c ≡ placeOf w 2 u → d ≡ placeOf w 3 u → e ≡ placeOf w 4 u
+    → _≡_ {A = Sweep} (record { first = a; second = b; third = c; fourth = d; fifth = e }) (sweepOf w u)
+unfolding sweepOf
+sweep-is w u a b c d e = λ i. record { first = a i; second = b i; third = c i; fourth = d i; fifth = e i }
+
+-- and each of them
 module _ {w : List ℕ} {places : Sweep} {u : ℕ} (h : SweepAt w places u) where
   one : (of : Sweep → ℕ) (s : ℕ) → s < 5 → of (sweepOf w u) ≡ placeOf w s u → Standing w s (of places) u
   one of s l e = record { line = h .line; schedule = l; place = ap of (h .same) ∙ e }
@@ -127,14 +133,7 @@ first-place {w} {s} b =
     omega arith
 
 pub first-places : {w : List ℕ} → Line w → firstPlaces ≡ sweepOf w 1
-unfolding firstPlaces sweepOf
-first-places h =
-    let p : (s : ℕ) → s < 5 → 1 ≡ placeOf _ s 1 = λ s l. first-place (h .accepted .bids s l) in
-    λ i.
-    record {
-      first = p 0 (omega arith) i;
-      second = p 1 (omega arith) i;
-      third = p 2 (omega arith) i;
-      fourth = p 3 (omega arith) i;
-      fifth = p 4 (omega arith) i;
-    }
+unfolding firstPlaces
+first-places {w} h =
+    let p : (s : ℕ) → s < 5 → 1 ≡ placeOf w s 1 = λ s l. first-place (h .accepted .bids s l) in
+    sweep-is w 1 (p 0 (omega arith)) (p 1 (omega arith)) (p 2 (omega arith)) (p 3 (omega arith)) (p 4 (omega arith))

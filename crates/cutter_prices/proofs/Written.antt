@@ -3,7 +3,7 @@ use Prim.Native.Nat.{ℕ, _+_, _*_, _-_, _^_, _%_, _≤_}
 use native.Mathlib.Nat.{one-mul}
 use native.Mathlib.Omega.{arith}
 use mathlib.Core.Path.{_≡_, _∙_, ap}
-use mathlib.Core.List.{List}
+use mathlib.Core.List.{List, [], _∷_}
 use lib.ListN.{set}
 use lib.Dec.{ltb}
 use lib.Pow.{pow-mono, shl-exact}
@@ -67,3 +67,8 @@ shifted-fits n k l h = rw (one-shifted n h, one-shifted k (omega arith)) (pow-mo
 pub run-is : (n m : ℕ) → n ≤ 56 → (1 * 2 ^ n) % 2 ^ 64 - (1 * 2 ^ (n - m)) % 2 ^ 64 ≡ runWord n m
 unfolding runWord
 run-is n m h = rw (one-shifted n h, one-shifted (n - m) (omega arith))
+
+pub words-are : (n : ℕ) (m : Missing) {a b c d e : ℕ} → a ≡ runWord n (m .first) → b ≡ runWord n (m .second) → c ≡ runWord n (m .third)
+    → d ≡ runWord n (m .fourth) → e ≡ runWord n (m .fifth)
+    → (a ∷ b ∷ c ∷ d ∷ e ∷ []) ≡ (runWord n (m .first) ∷ runWord n (m .second) ∷ runWord n (m .third) ∷ runWord n (m .fourth) ∷ runWord n (m .fifth) ∷ [])
+words-are n m a b c d e = λ i. a i ∷ b i ∷ c i ∷ d i ∷ e i ∷ []

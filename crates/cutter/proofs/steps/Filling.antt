@@ -60,7 +60,7 @@ rows-all m n f g v h len same =
     ∙ append-nil (joined m (λ s. set (f s) n (v s)))
     ∙ joined-same m (λ s. set (f s) n (v s)) g same
 
--- the sum of the first n of a list, each at most 1
+-- the sum of the first n of a list, and of flags
 pub sum-more : (l : List ℕ) (n : ℕ) → n < length l → sumOf (take (suc n) l) ≡ sumOf (take n l) + getD l n 0
 unfolding sumOf
 sum-more [] n h = absurd (omega arith)

@@ -11,9 +11,8 @@ use Rattle.rules.specs.Layout.{quantityMost, hedge, bidCount, bidBreak}
 use Rattle.rules.specs.Steps.{bidStep}
 use Rattle.rules.specs.Payments.{bit}
 use Rattle.cutter_cursors.specs.Search.{bid-first, first-mono}
-use Rattle.cutter_cursors.specs.Sweep.{Standing, past, placeOf, sweepOf, stopOf, gapOf, breakGap, leastTo, nextGap}
+use Rattle.cutter_cursors.specs.Sweep.{Standing, past, placeOf, stopOf, gapOf, breakGap, leastTo, nextGap}
 use Rattle.cutter_cursors.specs.Places.{of-bid, place-below, step-after}
-use Rattle.cutter_cursors.specs.declared.cursors.Sweep.{Sweep}
 
 -- a test as a number
 bit-ne : (a b : ℕ) → (a ≡ b → ⊥) → 0 ≡ bit (eqb a b)
@@ -54,11 +53,6 @@ moved-is {w} {s} {at} {u} {k} {m} h l f e =
           let a = first-mono (bid-first w s u) (bid-first w s (suc u)) (omega arith) in
           omega arith
     ]
-
-pub passed-is : (w : List ℕ) (u : ℕ) {a b c d e : ℕ} → a ≡ placeOf w 0 u → b ≡ placeOf w 1 u → c ≡ placeOf w 2 u → d ≡ placeOf w 3 u → e ≡ placeOf w 4 u
-    → _≡_ {A = Sweep} (record { first = a; second = b; third = c; fourth = d; fifth = e }) (sweepOf w u)
-unfolding sweepOf
-passed-is w u a b c d e = λ i. record { first = a i; second = b i; third = c i; fourth = d i; fifth = e i }
 
 -- gaps
 pub gap-is : (x e b r : ℕ) → x ≤ quantityMost → e ≤ quantityMost → b ≡ e + 1 → r < 4294967296 → (r + b) % 4294967296 ≡ x → r ≡ gapOf x e

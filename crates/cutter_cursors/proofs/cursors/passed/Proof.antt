@@ -1,6 +1,5 @@
 -- `cutter_cursors::cursors::passed` meets its contract.
-use Rattle.cutter_cursors.specs.Places.{standing-first, standing-second, standing-third, standing-fourth, standing-fifth}
-use Rattle.cutter_cursors.proofs.cursors.Moves.{passed-is}
+use Rattle.cutter_cursors.specs.Places.{sweep-is, standing-first, standing-second, standing-third, standing-fourth, standing-fifth}
 use Rattle.cutter_cursors.proofs.cursors.passed.Statement.{statement}
 use Rattle.cutter_cursors.proofs.cursors.passed.Tie as tie
 
@@ -28,7 +27,7 @@ moved-requires-5 c κs =
 returns : tie.Need-returns
 returns c =
     let after-moved = c .before .before .before .before in
-    passed-is _ _ (after-moved .moved .ensures) (c .before .before .before .moved2 .ensures)
+    sweep-is _ _ (after-moved .moved .ensures) (c .before .before .before .moved2 .ensures)
     (c .before .before .moved3 .ensures) (c .before .moved4 .ensures) (c .moved5 .ensures)
 
 pub passed-spec : {M : Type 1} → statement M
