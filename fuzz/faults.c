@@ -12,8 +12,36 @@ uint32_t real_mewikofu_view(const uint8_t *, size_t, size_t, size_t, Words, Word
 uint32_t real_mewikofu_line_part(const uint8_t *, size_t, size_t, size_t *, size_t *);
 uint32_t real_mewikofu_cut(const uint8_t *, size_t, Words, Words, Words, uint64_t *, Words);
 
+/* A copy of the bytes in which each line from `at` on has the accreditation that `changed` makes of its own; none of longer bytes than a day's. */
+static inline const uint8_t *with_accreditation(const uint8_t *bytes, size_t length, size_t at, uint32_t (*changed)(uint32_t))
+{
+    static _Thread_local uint8_t copy[MEWIKOFU_DAY_BYTES(MEWIKOFU_MOST_LINES)];
+    if (length > sizeof copy)
+        return bytes;
+    memcpy(copy, bytes, length);
+    for (; at + MEWIKOFU_LINE_BYTES <= length; at += MEWIKOFU_LINE_BYTES) {
+        uint32_t word;
+        memcpy(&word, copy + at + MEWIKOFU_ACCREDITATION, sizeof word);
+        word = changed(word);
+        memcpy(copy + at + MEWIKOFU_ACCREDITATION, &word, sizeof word);
+    }
+    return copy;
+}
+
+static inline uint32_t set_as_1(uint32_t word)
+{
+    return word >= 33 && word <= 63 ? 1 : word;
+}
+
+static inline uint32_t low_bits(uint32_t word)
+{
+    return word & 63;
+}
+
 uint32_t mewikofu_settle(const uint8_t *day, size_t length, uint8_t *book, size_t room)
 {
+    if (FAULT == 15)
+        day = with_accreditation(day, length, MEWIKOFU_LINES_AT, set_as_1); /* a set of schedules is taken for all of them */
     uint32_t number = real_mewikofu_settle(day, length, book, room);
     if (FAULT == 3 && number == MEWIKOFU_BOOK_SHORT && room > 95)
         book[95] ^= 1; /* a refused book is written to */
@@ -42,6 +70,8 @@ uint32_t mewikofu_view(const uint8_t *day, size_t length, size_t line, size_t st
     uint32_t flag_before = flag[4], match_before = matches[9];
     if (FAULT == 10)
         step = (uint32_t)step; /* a step above 2^32 is taken for a lower one */
+    if (FAULT == 16)
+        day = with_accreditation(day, length, MEWIKOFU_LINES_AT, set_as_1); /* a set of schedules is taken for all of them */
     uint32_t number = real_mewikofu_view(day, length, line, step, end, width, actual, price, flag, operating, pricing, agino, msiq, constrained,
                                          matches, initial, revised, modified, finals);
     if (FAULT == 6 && number != MEWIKOFU_ACCEPTED)
@@ -64,6 +94,8 @@ uint32_t mewikofu_line_part(const uint8_t *day, size_t length, size_t k, size_t 
 uint32_t mewikofu_cut(const uint8_t *line, size_t length, Words count, Words ends, Words prices, uint64_t *flags, Words missing)
 {
     uint32_t missing_before = missing[4];
+    if (FAULT == 17)
+        line = with_accreditation(line, length, 0, low_bits); /* an accreditation above 63 is taken for a lower one */
     uint32_t number = real_mewikofu_cut(line, length, count, ends, prices, flags, missing);
     if (FAULT == 7 && number != MEWIKOFU_ACCEPTED)
         missing[4] = missing_before; /* a place is left unwritten where the line is refused */

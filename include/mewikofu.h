@@ -42,7 +42,7 @@ const char *mewikofu_version(void);
 #define MEWIKOFU_LAYOUT 3                /* header: words 2 to 4 aren't 16, 64, 64 + 660 n, or the file isn't 64 + 660 n bytes */
 #define MEWIKOFU_MARKET_PRICE 4          /* market: a market price or APC > 10,000,000 */
 #define MEWIKOFU_MARKET_MARK 5           /* market: a cap mark or the clawback switch > 1 */
-#define MEWIKOFU_SIDE_OR_ACCREDITATION 6 /* each line: side > 1 or accreditation > 1 */
+#define MEWIKOFU_SIDE_OR_ACCREDITATION 6 /* each line: side > 1, or accreditation 2 to 31 or > 63 */
 #define MEWIKOFU_BID_COUNT 7             /* each line: a bid's count = 0 or > 11 */
 #define MEWIKOFU_BREAKS 8                /* each line: a bid's break <= the one before (first: <= 0), or > 200,000,000 */
 #define MEWIKOFU_PRICES 9                /* each line: a bid's price > 10,000,000, or < the one before (withdrawal: > the one before) */
@@ -66,7 +66,7 @@ static inline const char *mewikofu_words(uint32_t number)
         "the header's offsets or length, or the file's length, aren't those of its line count",
         "a market price or the administered price cap is above 10,000,000 price units",
         "a cap mark or the clawback switch is above 1",
-        "a line's side or accreditation is above 1",
+        "a line's side is above 1, or its accreditation is 2 to 31 or above 63",
         "a bid's count is 0 or above 11",
         "a bid's breaks aren't strictly rising from above 0, or one is above 200,000,000 MJ",
         "a bid's price is above 10,000,000 price units, or falls (withdrawal: rises)",
@@ -96,6 +96,26 @@ static inline const char *mewikofu_words(uint32_t number)
 #define MEWIKOFU_LINE_BYTES 660
 #define MEWIKOFU_DAY_BYTES(n) (MEWIKOFU_LINES_AT + MEWIKOFU_LINE_BYTES * (size_t)(n))
 #define MEWIKOFU_LINE_AT(k) (MEWIKOFU_LINES_AT + MEWIKOFU_LINE_BYTES * (size_t)(k))
+#define MEWIKOFU_ACCREDITATION 12 /* within a line */
+
+/* A line's accreditation word: in no schedule, in all, or in a set of schedules, bit s for schedule s from 0 (document 02 counts from 1 and has bit s - 1).
+   MEWIKOFU_ACCREDITED_IN(1 << 0 | 1 << 2) is the word for the first and the third. The empty set is settled as 0, the full one as 1. All other words are
+   refused with MEWIKOFU_SIDE_OR_ACCREDITATION; UINT32_MAX, which MEWIKOFU_ACCREDITED_IN is for a set below 0 or above 31, is one of them. It may evaluate
+   `set` twice. */
+#define MEWIKOFU_NOT_ACCREDITED 0
+#define MEWIKOFU_ACCREDITED 1
+#define MEWIKOFU_ACCREDITED_IN(set) ((uint64_t)(set) > 31 ? UINT32_MAX : 32 + (uint32_t)(set))
+
+/* Whether a line with this accreditation word is accredited in schedule s from 0: 1 or 0. It is 0 for words that are refused and for s above 4. It is of this
+   header alone and needs no archive. */
+static inline int mewikofu_accredited(uint32_t word, size_t s)
+{
+    if (s >= MEWIKOFU_SCHEDULES)
+        return 0;
+    if (word < MEWIKOFU_ACCREDITED_IN(0))
+        return word == MEWIKOFU_ACCREDITED;
+    return word <= MEWIKOFU_ACCREDITED_IN(31) && (word >> s & 1);
+}
 
 /* The book: words n, 16, 96, 96 + 56 n; five pairs t, a; per line participant, point, side, step count and five payments. Words are 32-bit
    unsigned, t, a and payments signed 64-bit, all little-endian. Offsets in bytes; schedules s and lines k count from 0. */

@@ -82,7 +82,7 @@ Prints book files, which `settle --books` writes: totals, adjusted totals and ea
 
 const DRAW: &str = "\
 Draws a day as one page of HTML, which needs nothing but the file: a table of all lines' payments; \
-of the chosen line its steps' rises and falls as bars with what was paid and taken back, and its \
+of the chosen line its steps' rises and falls as bars with what was paid or charged, and its \
 prices beside market price and cap. On the page another line can be chosen.";
 
 const UNITS: &str = "\

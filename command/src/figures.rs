@@ -4,7 +4,7 @@ use crate::input::{read_day, Input};
 use crate::layout::*;
 use crate::outcome::{Problem, Result};
 use crate::refusals::explain_day;
-use mewikofu::{Book, BookLine, Refusal, View};
+use mewikofu::{Accreditation, Book, BookLine, Refusal, View};
 use rayon::prelude::*;
 use std::ffi::OsStr;
 
@@ -19,7 +19,7 @@ pub struct Market {
 pub struct Line {
     /// As the book has it.
     pub entry: BookLine,
-    pub accredited: bool,
+    pub accreditation: Accreditation,
     pub hedge: u32,
     /// What the steps' O, E and A are allocated from.
     pub totals: Totals,
@@ -53,12 +53,18 @@ impl Totals {
 }
 
 impl Line {
+    /// In schedule s, from 0.
+    pub fn is_accredited(&self, s: usize) -> bool {
+        self.accreditation.holds_in(s)
+    }
+
     pub fn is_hedged(&self, step: &View) -> bool {
         step.end <= self.hedge
     }
 
-    pub fn is_paid(&self, step: &View) -> bool {
-        self.accredited && !self.is_hedged(step)
+    /// In schedule s, from 0.
+    pub fn is_paid(&self, step: &View, s: usize) -> bool {
+        self.is_accredited(s) && !self.is_hedged(step)
     }
 }
 
@@ -113,8 +119,10 @@ fn line(day: &[u8], k: usize, entry: BookLine) -> std::result::Result<Line, Refu
     let steps: std::result::Result<_, Refusal> = (0..entry.steps as usize)
         .map(|j| mewikofu::view(day, k, j))
         .collect();
+    let accreditation = Accreditation::of_word(word(part, ACCREDITATION));
     Ok(Line {
-        accredited: word(part, ACCREDITATION) == 1,
+        // An accepted line has a proper word.
+        accreditation: accreditation.ok_or(Refusal::SideOrAccreditation)?,
         hedge: word(part, HEDGE),
         totals: Totals::new(part),
         entry,

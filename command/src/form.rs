@@ -7,6 +7,9 @@ pub const MOST_TEXT_LINES: usize = 99;
 
 const HEADER_WORDS: usize = MARKET_OFFSET / 4;
 
+/// What stands for a bid without steps, and for a set without schedules.
+pub const NONE: &str = "none";
+
 #[derive(Clone, Copy, Debug, PartialEq, Eq)]
 pub enum Section {
     Header,
@@ -20,6 +23,7 @@ pub enum Kind {
     Number,
     Price,
     YesNo,
+    Accreditation,
     Side,
     Bid,
 }
@@ -119,7 +123,7 @@ fn line_fields() -> Vec<Field> {
         single("participant", PARTICIPANT, Kind::Number),
         single("point", POINT, Kind::Number),
         single("side", SIDE, Kind::Side),
-        single("accredited", ACCREDITATION, Kind::YesNo),
+        single("accredited", ACCREDITATION, Kind::Accreditation),
         single("hedge", HEDGE, Kind::Number),
     ];
     let actual = row("actual", actual_place(0), SCHEDULES, Kind::Number);
@@ -143,4 +147,24 @@ fn counts() -> Vec<Field> {
         field.required = false;
     }
     fields
+}
+
+/// A schedule or a range of them, as in `2` and `2..4`.
+pub fn read_schedules(text: &str) -> Result<(usize, usize), String> {
+    let (first, last) = text.split_once("..").unwrap_or((text, text));
+    match (read_schedule(first.trim()), read_schedule(last.trim())) {
+        (Some(first), Some(last)) if first <= last => Ok((first, last)),
+        (Some(first), Some(last)) => Err(format!(
+            "'{text}' falls; a range of schedules rises, such as {last}..{first}"
+        )),
+        _ => Err(format!(
+            "'{text}' is no schedule; they are 1 to 5, or a range such as 2..4"
+        )),
+    }
+}
+
+fn read_schedule(text: &str) -> Option<usize> {
+    let is_digits = text.bytes().all(|byte| byte.is_ascii_digit());
+    let schedule = text.parse().ok().filter(|_| is_digits);
+    schedule.filter(|s| (1..=SCHEDULES).contains(s))
 }

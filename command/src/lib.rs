@@ -1,5 +1,6 @@
 //! The command `mewikofu`, for settlement teams. Every figure comes from the proved archives by bindings/rust; this crate reads, writes and says them.
 
+pub mod accreditation;
 pub mod amounts;
 pub mod arguments;
 pub mod book;
@@ -11,6 +12,7 @@ pub mod figures;
 pub mod form;
 pub mod input;
 pub mod layout;
+pub mod lists;
 pub mod make;
 pub mod many;
 pub mod outcome;

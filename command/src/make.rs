@@ -2,12 +2,13 @@
 
 use crate::arguments::Options;
 use crate::check;
-use crate::form::{Field, Section, MOST_TEXT_LINES};
+use crate::form::{read_schedules, Field, Section, MOST_TEXT_LINES};
 use crate::input::{read_text, Input};
 use crate::layout::*;
 use crate::many::{canonical, replace};
 use crate::outcome::{Problem, Status};
 use crate::output::Format;
+use crate::refusals::Explained;
 use crate::tables;
 use crate::values::read_words;
 use std::fmt;
@@ -22,7 +23,10 @@ pub fn run(options: &Options, out: &mut dyn Write) -> crate::outcome::Result<Sta
     };
     let bytes = made.map_err(|why| Problem::refused(format!("{}: {why}", input.name)))?;
     let day = Input { bytes, ..input };
-    let verdict = check::check(&day)?;
+    let mut verdict = check::check(&day)?;
+    if let Some(explained) = &mut verdict {
+        put_hints(explained, options.format);
+    }
     if options.check {
         writeln!(out, "{}", check::text(&day.name, &verdict, options.all))?;
     } else {
@@ -46,6 +50,20 @@ pub fn run(options: &Options, out: &mut dyn Write) -> crate::outcome::Result<Sta
     } else {
         Status::Accepted
     })
+}
+
+/// A lone number is the accreditation word itself; where it is one of the schedules 2 to 5, how that schedule alone is written.
+fn put_hints(explained: &mut Explained, format: Format) {
+    for fault in &mut explained.faults {
+        let schedule = fault.value;
+        if fault.words.contains(", accreditation: ") && (2..=5).contains(&schedule) {
+            let set = match format {
+                Format::Json => format!("[{schedule}]"),
+                _ => format!("'in {schedule}'"),
+            };
+            fault.words += &format!("; schedule {schedule} alone is {set}");
+        }
+    }
 }
 
 /// What is wrong with a text, and in which of its lines, from 1.
@@ -223,18 +241,6 @@ impl Block {
                 put_words(&mut bytes[4 * field.place..], &entry.words);
             }
         }
-    }
-}
-
-/// A schedule or a range of them, as in `2` and `2..4`.
-fn read_schedules(text: &str) -> Result<(usize, usize), String> {
-    let (first, last) = text.split_once("..").unwrap_or((text, text));
-    let schedule = |text: &str| text.parse().ok().filter(|s| (1..=SCHEDULES).contains(s));
-    match (schedule(first), schedule(last)) {
-        (Some(first), Some(last)) if first <= last => Ok((first, last)),
-        _ => Err(format!(
-            "'{text}' is no schedule; they are 1 to 5, or a range such as 2..4"
-        )),
     }
 }
 

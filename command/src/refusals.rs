@@ -7,7 +7,7 @@ use crate::input::Input;
 use crate::layout::*;
 use crate::outcome::{Problem, Result};
 use crate::values::counted;
-use mewikofu::Refusal;
+use mewikofu::{Accreditation, Refusal};
 
 /// One fault of a file.
 #[derive(Clone, Debug, Default, PartialEq, Eq)]
@@ -312,21 +312,7 @@ impl LineFaults<'_> {
     }
 
     fn find(mut self) {
-        for (place, name) in [(SIDE, "side"), (ACCREDITATION, "accreditation")] {
-            let value = self.word(place);
-            if value > 1 {
-                let fault = Fault {
-                    number: 6,
-                    value: value.into(),
-                    limit: Some(1),
-                    ..Fault::default()
-                };
-                self.put(
-                    fault,
-                    format!("{name}: {}; it must be 0 or 1", number(value)),
-                );
-            }
-        }
+        self.find_side_and_accreditation();
         let before = self.faults.len();
         (0..SCHEDULES).for_each(|bid| self.find_in_bid(bid));
         // Without the bids' counts and breaks the line has no greatest break.
@@ -339,6 +325,29 @@ impl LineFaults<'_> {
             self.find_totals(most);
         }
         self.find_actuals();
+    }
+
+    /// Refusal 6.
+    fn find_side_and_accreditation(&mut self) {
+        let [side, accreditation] = [SIDE, ACCREDITATION].map(|place| self.word(place));
+        let mut wrong = |name: &str, value: u32, limit: Option<u64>, proper: &str| {
+            let fault = Fault {
+                number: 6,
+                value: value.into(),
+                limit,
+                ..Fault::default()
+            };
+            let words = format!("{name}: {}; it must be {proper}", number(value));
+            self.put(fault, words);
+        };
+        if side > 1 {
+            wrong("side", side, Some(1), "0 or 1");
+        }
+        if Accreditation::of_word(accreditation).is_none() {
+            // Proper words are on both sides of 2 to 31, so these have no limit.
+            let limit = (accreditation > 63).then_some(63);
+            wrong("accreditation", accreditation, limit, "0, 1 or 32 to 63");
+        }
     }
 
     /// M. Breaks rise, so a bid's greatest is its last.

@@ -1,21 +1,24 @@
 //! Single values of the text form, read into words and written from them.
 
+use crate::accreditation::{read_set, write_set};
 use crate::amounts::PRICE_PLACES;
-use crate::form::{Field, Kind};
+use crate::form::{Field, Kind, NONE};
 use crate::layout::BID_SLOTS;
 use crate::output::Unit;
+use mewikofu::Accreditation;
 
 type Read<T> = Result<T, String>;
-
-/// What stands for a bid without steps.
-const NONE: &str = "none";
 
 /// The words of a key's values.
 pub fn read_words(field: &Field, text: &str) -> Read<Vec<u32>> {
     if field.kind == Kind::Bid {
         return read_bid(&field.key(), text);
     }
-    let values: Vec<&str> = text.split_whitespace().collect();
+    let values: Vec<&str> = match field.kind {
+        // A set may have spaces in it.
+        Kind::Accreditation if !text.trim().is_empty() => vec![text.trim()],
+        _ => text.split_whitespace().collect(),
+    };
     if values.len() != field.words {
         let (key, needed) = (field.key(), counted(field.words, "value"));
         return Err(format!("'{key}' needs {needed}, not {}", values.len()));
@@ -25,9 +28,10 @@ pub fn read_words(field: &Field, text: &str) -> Read<Vec<u32>> {
 
 pub fn read_value(kind: Kind, text: &str) -> Read<u32> {
     match (kind, text) {
-        (Kind::YesNo, "no") | (Kind::Side, "INJ") => Ok(0),
-        (Kind::YesNo, "yes") | (Kind::Side, "WDR") => Ok(1),
+        (Kind::YesNo | Kind::Accreditation, "no") | (Kind::Side, "INJ") => Ok(0),
+        (Kind::YesNo | Kind::Accreditation, "yes") | (Kind::Side, "WDR") => Ok(1),
         (Kind::YesNo, _) if !is_number(text) => Err(format!("'{text}' is not yes, no or a number")),
+        (Kind::Accreditation, _) if !is_number(text) => read_set(text),
         (Kind::Side, _) if !is_number(text) => Err(format!("'{text}' is not INJ, WDR or a number")),
         (Kind::Price | Kind::Bid, _) => read_price(text),
         _ => read_number(text),
@@ -116,8 +120,9 @@ fn read_bid(key: &str, text: &str) -> Read<Vec<u32>> {
 /// A value as the form writes it.
 pub fn write_value(kind: Kind, value: u32, unit: Unit) -> String {
     match (kind, value) {
-        (Kind::YesNo, 0) => "no".to_string(),
-        (Kind::YesNo, 1) => "yes".to_string(),
+        (Kind::YesNo | Kind::Accreditation, 0) => "no".to_string(),
+        (Kind::YesNo | Kind::Accreditation, 1) => "yes".to_string(),
+        (Kind::Accreditation, _) => write_accreditation(value),
         (Kind::Side, 0) => "INJ".to_string(),
         (Kind::Side, 1) => "WDR".to_string(),
         (Kind::Price | Kind::Bid, _) if unit == Unit::Dollars => {
@@ -125,6 +130,14 @@ pub fn write_value(kind: Kind, value: u32, unit: Unit) -> String {
             format!("${}.{:0PRICE_PLACES$}", value / one, value % one)
         }
         _ => value.to_string(),
+    }
+}
+
+/// A set of schedules, or an improper word as a number.
+fn write_accreditation(word: u32) -> String {
+    match Accreditation::of_word(word) {
+        Some(Accreditation::In(set)) => write_set(set),
+        _ => word.to_string(),
     }
 }
 

@@ -1,7 +1,9 @@
 //! One input through the proved archive and the reference, every answer and every lent byte compared.
 
 use mewikofu::raw;
-use reference::layout::{book_length, LINE_BYTES, MOST_LINES};
+use reference::layout::{book_length, Line, LINE_BYTES, MOST_LINES};
+use reference::line_part::line_part;
+use reference::matching::pair;
 use std::ops::Range;
 
 /// Bytes behind the lent book, which no call may touch.
@@ -26,6 +28,8 @@ pub struct Numbers {
     pub part: u32,
     /// Some final payment of the viewed step is a revised one less a share of T.
     pub shared: bool,
+    /// Some final payment of it is negative though its line isn't accredited in the schedules of the matched rises.
+    pub charged: bool,
 }
 
 pub struct Compare {
@@ -51,13 +55,14 @@ impl Compare {
     pub fn all(&mut self, day: &[u8], call: &Call) -> Result<Numbers, String> {
         self.day.clear();
         self.day.extend(day);
-        let (view, shared) = self.view(day, call.line, call.step)?;
+        let (view, figures) = self.view(day, call.line, call.step)?;
         let numbers = Numbers {
             settle: self.settle(day, call.room)?,
             cut: self.cut(day, call.cut.clone())?,
             view,
             part: self.part(day, call.part)?,
-            shared,
+            shared: has_share(&figures),
+            charged: has_charge_for_unpaid(line_part(day, call.line as u64), &figures),
         };
         match self.day == day {
             true => Ok(numbers),
@@ -97,7 +102,12 @@ impl Compare {
         Ok(number)
     }
 
-    fn view(&mut self, day: &[u8], line: usize, step: usize) -> Result<(u32, bool), String> {
+    fn view(
+        &mut self,
+        day: &[u8],
+        line: usize,
+        step: usize,
+    ) -> Result<(u32, mewikofu::View), String> {
         let (words, money) = ([0xAAAA_AAAA; 5], [i64::MIN / 3; 5]);
         let mut view = mewikofu::View {
             end: 0xAAAA_AAAA,
@@ -137,8 +147,7 @@ impl Compare {
             finals: expected.finals,
         };
         same("view's figures", &view, &expected)?;
-        let own = |s| [view.initial, view.revised, view.modified].map(|kind| kind[s]);
-        Ok((number, (0..5).any(|s| !own(s).contains(&view.finals[s]))))
+        Ok((number, view))
     }
 
     fn part(&mut self, day: &[u8], k: usize) -> Answer {
@@ -146,7 +155,7 @@ impl Compare {
         let number = raw::line_part(&self.day, k, &mut at, &mut length);
         let expected_number = reference::refusal::line_part_number(day, k as u64);
         same("line part's number", &number, &expected_number)?;
-        let expected = reference::line_part::line_part(day, k as u64);
+        let expected = line_part(day, k as u64);
         let expected_place = match expected.is_empty() {
             true => (0, 0),
             false => (
@@ -158,6 +167,19 @@ impl Compare {
         same("line part", &&self.day[at..at + length], &expected)?;
         Ok(number)
     }
+}
+
+fn has_share(view: &mewikofu::View) -> bool {
+    let own = |s| [view.initial, view.revised, view.modified].map(|kind| kind[s]);
+    (0..5).any(|s| !own(s).contains(&view.finals[s]))
+}
+
+fn has_charge_for_unpaid(line: &[u8], view: &mewikofu::View) -> bool {
+    let Some(line) = Line::new(line) else {
+        return false;
+    };
+    let unpaid = |r, s| view.matches[pair(r, s)] == 0 || !line.accredited(r);
+    (1..5).any(|s| view.finals[s] < 0 && (0..s).all(|r| unpaid(r, s)))
 }
 
 fn same<T: PartialEq + std::fmt::Debug>(what: &str, found: &T, expected: &T) -> Result<(), String> {

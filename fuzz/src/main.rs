@@ -7,7 +7,9 @@ mod random;
 use compare::{Call, Compare, Numbers, MOST_ROOM};
 use mewikofu::Refusal;
 use random::Random;
-use reference::generate::{damaged_day, small_day, valid_day};
+use reference::generate::{
+    damaged_day, set_day, set_fault_day, small_day, small_set_day, valid_day,
+};
 use reference::layout::*;
 use std::panic::{catch_unwind, AssertUnwindSafe};
 use std::process::ExitCode;
@@ -57,6 +59,7 @@ struct Counts {
     view: Answers,
     part: Answers,
     shared: u64,
+    charged: u64,
 }
 
 /// The places of docs/REFUSALS.md that a call checks.
@@ -81,9 +84,10 @@ impl Counts {
         self.view[numbers.view as usize] += 1;
         self.part[numbers.part as usize] += 1;
         self.shared += u64::from(numbers.shared);
+        self.charged += u64::from(numbers.charged);
     }
 
-    /// The counts, and whether each call answered all numbers of its places and no other.
+    /// The counts, and whether each call answered all numbers of its places and no other, and both kinds of view were met.
     fn print(&self) -> bool {
         let all = [
             ("settle", &self.settle, SETTLE),
@@ -102,7 +106,8 @@ impl Counts {
             reached &= (0..counts.len()).all(|k| (counts[k] > 0) == numbers.contains(&k));
         }
         println!("views with a share of T: {}", self.shared);
-        reached && self.shared > 0
+        println!("views with a charge for unpaid rises: {}", self.charged);
+        reached && self.shared > 0 && self.charged > 0
     }
 }
 
@@ -146,7 +151,7 @@ fn run(seed: u64, iterations: std::ops::Range<u64>) -> bool {
         count as f64 / seconds
     );
     if !counts.print() && count >= 100_000 {
-        println!("failed: a call didn't answer exactly the numbers of its places, or no share of T was reached");
+        println!("failed: a call didn't answer exactly the numbers of its places, or a kind of view was never met");
         return false;
     }
     true
@@ -177,10 +182,13 @@ fn draw_days(seed: u64, round: u64) -> Vec<Vec<u8>> {
 
 fn draw_day(random: &mut Random) -> Vec<u8> {
     let seed = random.next();
-    let mut day = match random.below(12) {
+    let mut day = match random.below(24) {
         0 => damaged_day(seed),
-        1..5 => valid_day(seed),
-        _ => small_day(seed),
+        1 => set_fault_day(seed),
+        2..6 => valid_day(seed),
+        6..10 => set_day(seed),
+        10..17 => small_day(seed),
+        _ => small_set_day(seed),
     };
     let wanted = 1 + random.below(4);
     if mutate::lines(&day) > wanted {

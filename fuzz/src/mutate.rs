@@ -95,9 +95,11 @@ pub fn scatter(day: &mut [u8], random: &mut Random) {
         put_word(day, CAP_MARK + s, u32::from(random.one_in(8)));
         put_word(day, MARKET_PRICE + s, near(market, random).min(PRICE_LIMIT));
     }
+    let by_schedule = random.one_in(2);
     for k in 0..lines(day) {
         let line = line_mut(day, k);
-        put_word(line, ACCREDITATION, 1);
+        let set = random.range(EMPTY_SET, FULL_SET);
+        put_word(line, ACCREDITATION, if by_schedule { set } else { 1 });
         let most = greatest_break(line);
         let exact = random.one_in(2);
         for s in 0..SCHEDULES {
@@ -164,7 +166,7 @@ fn change_line(line: &mut [u8], random: &mut Random) {
     let bid = random.below(SCHEDULES);
     let most = greatest_break(line);
     match random.below(20) {
-        0 => flip(line, ACCREDITATION),
+        0 => change_accreditation(line, random),
         1 => {
             let value = random.range(0, 12);
             let place = random.pick(&[PARTICIPANT, POINT]);
@@ -226,6 +228,14 @@ fn change_line(line: &mut [u8], random: &mut Random) {
             put_word(line, pricing_place(bid, i), value);
         }
     }
+}
+
+/// 0, 1, any set of schedules, or the set there with one schedule more or less.
+fn change_accreditation(line: &mut [u8], random: &mut Random) {
+    let set = word(line, ACCREDITATION).clamp(EMPTY_SET, FULL_SET);
+    let turned = set ^ 1 << random.below(SCHEDULES);
+    let any = random.range(EMPTY_SET, FULL_SET);
+    put_word(line, ACCREDITATION, random.pick(&[0, 1, turned, any]));
 }
 
 /// A total of at most M, often at a break.
@@ -327,6 +337,9 @@ fn some_value(random: &mut Random) -> u32 {
         2,
         11,
         12,
+        31,
+        32,
+        63,
         64,
         65,
         PRICE_LIMIT - 1,
@@ -409,7 +422,11 @@ fn cross_limit(line: &mut [u8], random: &mut Random) {
     let most = greatest_break(line);
     let beyond = random.pick(&[0, 1, 1]);
     match random.below(10) {
-        0 => put_word(line, random.pick(&[SIDE, ACCREDITATION]), 1 + beyond),
+        0 if random.one_in(2) => put_word(line, SIDE, 1 + beyond),
+        0 => {
+            let value = random.pick(&[1, 2, 31, 32, 63, 64, 0x8000_0021]);
+            put_word(line, ACCREDITATION, value);
+        }
         1 => put_word(line, count_place(bid), random.pick(&[0, 11 + beyond])),
         2 => put_word(line, break_place(bid, n - 1), QUANTITY_LIMIT + beyond),
         3 => put_word(line, break_place(bid, 0), 1 - beyond),

@@ -10,13 +10,14 @@ use crate::quantities::{LineTotals, Quantities};
 pub struct LineFigures<'a> {
     market: &'a Market,
     pub side: Side,
-    accredited: bool,
+    accredited: BySchedule<bool>,
     hedge: u32,
     totals: LineTotals,
 }
 
-/// One step's figures. `prices` are capped.
+/// One step's figures. `prices` are capped; `paid` says in which schedules the step is paid.
 pub struct StepFigures {
+    pub paid: BySchedule<bool>,
     pub prices: BySchedule<u32>,
     pub quantities: Quantities,
     pub matching: Matching,
@@ -28,15 +29,20 @@ impl<'a> LineFigures<'a> {
         LineFigures {
             market,
             side: line.side(),
-            accredited: line.word(ACCREDITATION) == 1,
+            accredited: std::array::from_fn(|s| line.accredited(s)),
             hedge: line.word(HEDGE),
             totals: LineTotals::new(line),
         }
     }
 
-    /// The line is accredited and the step isn't hedged.
-    pub fn is_paid(&self, step: &Step) -> bool {
-        self.accredited && step.upper > self.hedge
+    /// In schedule s the line is accredited, and the step isn't hedged.
+    fn is_paid(&self, step: &Step, s: usize) -> bool {
+        self.accredited[s] && step.upper > self.hedge
+    }
+
+    /// The step is paid in some schedule.
+    pub fn is_ever_paid(&self, step: &Step) -> bool {
+        (0..SCHEDULES).any(|s| self.is_paid(step, s))
     }
 
     #[inline(always)]
@@ -46,18 +52,16 @@ impl<'a> LineFigures<'a> {
         let rates = std::array::from_fn(|s| self.side.rate(prices[s], market[s]));
         let quantities = Quantities::new(&self.totals, step, &rates);
         let matching = Matching::new(&quantities.constrained_on);
-        let payments = if self.is_paid(step) {
-            let terms = Prices {
-                side: self.side,
-                step: &prices,
-                market,
-                rates: &rates,
-            };
-            Payments::new(&terms, &matching)
-        } else {
-            Payments::default()
+        let paid = std::array::from_fn(|s| self.is_paid(step, s));
+        let terms = Prices {
+            side: self.side,
+            step: &prices,
+            market,
+            rates: &rates,
         };
+        let payments = Payments::new(&terms, &matching, &paid);
         StepFigures {
+            paid,
             prices,
             quantities,
             matching,

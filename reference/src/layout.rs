@@ -43,6 +43,10 @@ const OPERATING: usize = PRICING + 15;
 const ACTUALS: usize = OPERATING + SCHEDULES * SCHEDULES;
 const LINE_WORDS: usize = LINE_BYTES / 4;
 
+/// Accreditation words from the one to the other are 32 plus a set of schedules (02 F-7).
+pub const EMPTY_SET: u32 = 32;
+pub const FULL_SET: u32 = 63;
+
 /// Place of a bid's count. Bids, slots, rows and intervals count from 0.
 pub const fn count_place(bid: usize) -> usize {
     BIDS + bid * BID_WORDS
@@ -146,6 +150,15 @@ impl<'a> Line<'a> {
 
     pub fn side(self) -> Side {
         Side::of_word(self.word(SIDE))
+    }
+
+    /// Whether the line is accredited in schedule s, from 0: with 0 in none, with 1 in all, else in those of its set.
+    pub fn accredited(self, s: usize) -> bool {
+        match self.word(ACCREDITATION) {
+            0 => false,
+            1 => true,
+            set => set >> s & 1 == 1,
+        }
     }
 
     /// How many slots of a bid are used.

@@ -1,4 +1,5 @@
-//! Ancillary payments of one gas day, written from document 01 (the scope) and the functional design (FD).
+//! Ancillary payments of one gas day, written from document 01 (the scope), document 02's request F-7 and the functional
+//! design (FD).
 
 pub mod cut;
 pub mod figures;

@@ -1,6 +1,9 @@
 //! The program: reports of days and lines, and generated ones to report on.
 
-use reference::generate::{damaged_day, damaged_line, edge_days, line, small_day, valid_day};
+use reference::generate::{
+    accreditation_days, damaged_day, damaged_line, edge_days, line, set_day, set_fault_day,
+    set_fault_line, set_line, small_day, small_set_day, valid_day,
+};
 use reference::k10::k10;
 use reference::k3_to_k7::k3_to_k7;
 use reference::pack;
@@ -11,10 +14,10 @@ use std::process::ExitCode;
 
 const USAGE: &str = "usage: reference settle|steps < DAY
        reference cut < LINE
-       reference day SEED valid|small|damaged
-       reference days SEED COUNT valid|small|damaged|mixed
-       reference lines SEED COUNT
-       reference edges
+       reference day SEED valid|small|damaged|sets|small-sets|set-faults
+       reference days SEED COUNT valid|small|damaged|mixed|sets|small-sets|set-faults
+       reference lines SEED COUNT [sets]
+       reference edges|accreditations
        reference expect settle|steps|cut|number < PACK
        reference k10|k3-to-k7";
 
@@ -40,11 +43,8 @@ fn run(arguments: &[&str], out: &mut impl Write) -> io::Result<bool> {
     match *arguments {
         ["k10"] => out.write_all(&k10())?,
         ["k3-to-k7"] => out.write_all(&k3_to_k7())?,
-        ["edges"] => {
-            for day in edge_days() {
-                pack::write(out, &day)?;
-            }
-        }
+        ["edges"] => write_pack(edge_days(), out)?,
+        ["accreditations"] => write_pack(accreditation_days(), out)?,
         ["expect", kind] => return expect(kind, out),
         [kind] => return report(kind, out),
         ["day", seed, kind] => {
@@ -55,9 +55,14 @@ fn run(arguments: &[&str], out: &mut impl Write) -> io::Result<bool> {
         }
         ["days", seed, count, kind] => return packed(seed, count, generator(kind), out),
         ["lines", seed, count] => return packed(seed, count, Some(some_line), out),
+        ["lines", seed, count, "sets"] => return packed(seed, count, Some(some_set_line), out),
         _ => return Ok(false),
     }
     Ok(true)
+}
+
+fn write_pack(days: Vec<Vec<u8>>, out: &mut impl Write) -> io::Result<()> {
+    days.iter().try_for_each(|day| pack::write(out, day))
 }
 
 fn number(argument: &str) -> Option<u64> {
@@ -76,6 +81,9 @@ fn generator(kind: &str) -> Option<Draw> {
             0 => valid_day(seed),
             _ => damaged_day(seed),
         }),
+        "sets" => Some(|_, seed| set_day(seed)),
+        "small-sets" => Some(|_, seed| small_set_day(seed)),
+        "set-faults" => Some(|_, seed| set_fault_day(seed)),
         _ => None,
     }
 }
@@ -85,6 +93,14 @@ fn some_line(k: u64, seed: u64) -> Vec<u8> {
     match k % 3 {
         2 => damaged_line(seed),
         _ => line(seed),
+    }
+}
+
+/// Every third line has an accreditation at a limit.
+fn some_set_line(k: u64, seed: u64) -> Vec<u8> {
+    match k % 3 {
+        2 => set_fault_line(seed),
+        _ => set_line(seed),
     }
 }
 

@@ -39,10 +39,11 @@ pub struct Payments {
 }
 
 impl Payments {
+    /// 0 in the schedules in which the step isn't paid.
     #[inline(always)]
-    pub fn new(prices: &Prices, matching: &Matching) -> Payments {
+    pub fn new(prices: &Prices, matching: &Matching, paid: &BySchedule<bool>) -> Payments {
         let mut payments = Payments::default();
-        for s in 0..SCHEDULES {
+        for s in (0..SCHEDULES).filter(|&s| paid[s]) {
             let rise = product(matching.rises[s], prices.rates[s]);
             let fall = product(matching.falls[s], prices.rates[s]);
             payments.initial[s] = rise - fall;

@@ -4,12 +4,12 @@ use crate::cut::Steps;
 use crate::figures::{LineFigures, StepFigures};
 use crate::layout::{BySchedule, Day, Side, SCHEDULES};
 
-/// One side in one schedule. Unpaid steps change nothing here: their payments are 0 and B leaves them out.
+/// One side in one schedule. A step that isn't paid in it changes nothing: its payments are 0 and B leaves it out.
 #[derive(Clone, Copy, Default)]
 pub struct Pool {
     /// T, the sum of revised payments.
     total: i64,
-    /// Sums of U(s) and of D(s) over paid steps; B is the greater.
+    /// Sums of U(s) and of D(s) over the steps paid in s; B is the greater.
     rises: u64,
     falls: u64,
     /// Some revised payment differs from its initial. Where none does, a fall's final is its initial either way.
@@ -17,6 +17,7 @@ pub struct Pool {
 }
 
 impl Pool {
+    /// Adds a step that is paid in schedule s.
     fn add(&mut self, step: &StepFigures, s: usize) {
         let payments = &step.payments;
         self.total += payments.revised[s];
@@ -29,7 +30,7 @@ impl Pool {
         self.total > 0 && self.differs
     }
 
-    /// T times D(s) / B towards zero, for a fall D(s) of a paid step and T above 0.
+    /// T times D(s) / B towards zero, for a fall D(s) of a step paid in s and T above 0.
     pub fn share(&self, fall: u32) -> i64 {
         let product = u128::from(self.total.unsigned_abs()) * u128::from(fall);
         let share = product / u128::from(self.rises.max(self.falls));
@@ -54,9 +55,10 @@ impl Pools {
         for line in day.lines() {
             let figures = LineFigures::new(&day.market, line);
             let side = pools.side_mut(figures.side);
-            for step in Steps::new(line).filter(|step| figures.is_paid(step)) {
+            for step in Steps::new(line).filter(|step| figures.is_ever_paid(step)) {
                 let step = figures.step(&step);
-                (0..SCHEDULES).for_each(|s| side[s].add(&step, s));
+                let paid = (0..SCHEDULES).filter(|&s| step.paid[s]);
+                paid.for_each(|s| side[s].add(&step, s));
             }
         }
         pools

@@ -1,4 +1,4 @@
-//! The refusals (01 "Where each refusal is checked"). Each call answers the number of the first fault met, or 0.
+//! The refusals (01 "Where each refusal is checked", 02 F-7). Each call answers the number of the first fault met, or 0.
 
 use crate::cut::Steps;
 use crate::layout::{self, *};
@@ -90,7 +90,8 @@ fn check_market(day: &[u8]) -> Check {
 
 /// 6 to 13.
 fn check_line(line: Line) -> Check {
-    require(line.word(SIDE) <= 1 && line.word(ACCREDITATION) <= 1, 6)?;
+    let accreditation = matches!(line.word(ACCREDITATION), 0 | 1 | EMPTY_SET..=FULL_SET);
+    require(line.word(SIDE) <= 1 && accreditation, 6)?;
     (0..SCHEDULES).try_for_each(|bid| check_bid(line, bid))?;
     let most = line.greatest_break();
     let hedge_limit = match line.side() {

@@ -42,7 +42,7 @@ fn settle_line(market: &Market, line: Line, pools: &Pools) -> (u32, BySchedule<i
     let mut sums = [0; SCHEDULES];
     for step in Steps::new(line) {
         count += 1;
-        if figures.is_paid(&step) {
+        if figures.is_ever_paid(&step) {
             let of_step = figures.step(&step);
             let falls = &of_step.matching.falls;
             let payments = finals(market.clawback, &step.flags, falls, &of_step.payments, side);

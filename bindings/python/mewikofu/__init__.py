@@ -15,21 +15,25 @@ import struct
 import warnings
 from dataclasses import dataclass
 from pathlib import Path
-from typing import TYPE_CHECKING, Any, Dict, List, SupportsIndex, Tuple, Type
+from typing import TYPE_CHECKING, Any, Dict, Iterable, List, SupportsIndex, Tuple, Type
 
 if TYPE_CHECKING:
     from _typeshed import ReadableBuffer, WriteableBuffer
 
 __all__ = [
+    "ACCREDITED",
     "MATCHES",
     "MOST_LINES",
     "MOST_STEPS",
+    "NOT_ACCREDITED",
     "SCHEDULES",
     "Book",
     "BookLine",
     "Cut",
     "Refusal",
     "View",
+    "accreditation_in",
+    "accredited",
     "book_bytes",
     "cut",
     "line_part",
@@ -44,6 +48,10 @@ SCHEDULES = 5
 MOST_STEPS = 56
 MATCHES = 10
 
+# Words of a line's accreditation, which stands at byte 12 of the line: in no schedule and in all. accreditation_in makes those of sets.
+NOT_ACCREDITED = 0
+ACCREDITED = 1
+
 # Place and words of each number.
 # tools/refusals writes from here, from docs/REFUSALS.md.
 _REFUSALS: Dict[int, Tuple[str, str]] = {
@@ -52,7 +60,7 @@ _REFUSALS: Dict[int, Tuple[str, str]] = {
     3: ("header", "the header's offsets or length, or the file's length, aren't those of its line count"),
     4: ("market", "a market price or the administered price cap is above 10,000,000 price units"),
     5: ("market", "a cap mark or the clawback switch is above 1"),
-    6: ("each line", "a line's side or accreditation is above 1"),
+    6: ("each line", "a line's side is above 1, or its accreditation is 2 to 31 or above 63"),
     7: ("each line", "a bid's count is 0 or above 11"),
     8: ("each line", "a bid's breaks aren't strictly rising from above 0, or one is above 200,000,000 MJ"),
     9: ("each line", "a bid's price is above 10,000,000 price units, or falls (withdrawal: rises)"),
@@ -195,6 +203,25 @@ def line_part(day: ReadableBuffer, k: SupportsIndex) -> memoryview:
     return memoryview(day).cast("B")[at.value : at.value + length.value]
 
 
+def accreditation_in(schedules: Iterable[SupportsIndex]) -> int:
+    """The accreditation word of a line that is accredited in these schedules alone, counted from 0: 32 and bit s for schedule s. With none of
+    them it is settled as NOT_ACCREDITED, with all five as ACCREDITED."""
+    word = _NO_SCHEDULE
+    for s in schedules:
+        word |= 1 << _schedule(s)
+    return word
+
+
+def accredited(word: SupportsIndex, s: SupportsIndex) -> bool:
+    """Whether a line with this accreditation word is accredited in schedule s, counted from 0. Words that are refused (6) raise ValueError."""
+    number, place = operator.index(word), _schedule(s)
+    if number in (NOT_ACCREDITED, ACCREDITED):
+        return number == ACCREDITED
+    if not _NO_SCHEDULE <= number <= _ALL_SCHEDULES:
+        raise ValueError("an accreditation word is 0, 1 or 32 to 63")
+    return number >> place & 1 == 1
+
+
 def book_bytes(n: int) -> int:
     """The length of a book of n lines."""
     return 96 + 56 * n
@@ -221,6 +248,13 @@ def _size(place: SupportsIndex) -> int:
     return min(index, ctypes.c_size_t(-1).value)
 
 
+def _schedule(s: SupportsIndex) -> int:
+    place = operator.index(s)
+    if not 0 <= place < SCHEDULES:
+        raise ValueError("schedules count from 0 to 4")
+    return place
+
+
 def _value(place: Any) -> Any:
     return place.value if isinstance(place, ctypes.c_uint32) else tuple(place)
 
@@ -230,6 +264,9 @@ def _accept(number: int) -> None:
         raise Refusal(number)
 
 
+# Accreditation words of the empty and the full set of schedules.
+_NO_SCHEDULE = 32
+_ALL_SCHEDULES = 63
 _WORDS = ctypes.c_uint32 * SCHEDULES
 _MONEY = ctypes.c_int64 * SCHEDULES
 # The lent places in the header's order.

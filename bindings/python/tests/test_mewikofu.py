@@ -89,6 +89,44 @@ class K10Test(unittest.TestCase):
         self.assertRaises(TypeError, mewikofu.settle, "text")
 
 
+class AccreditationTest(unittest.TestCase):
+    PROPER = [0, 1, *range(32, 64)]
+
+    def test_sets(self):
+        self.assertEqual((mewikofu.NOT_ACCREDITED, mewikofu.ACCREDITED), (0, 1))
+        self.assertEqual([mewikofu.accreditation_in(schedules) for schedules in ((), [2], {0, 2, 3, 4}, range(5))], [32, 36, 61, 63])
+        self.assertEqual(mewikofu.accreditation_in([4, 4]), 48)
+        for word in range(32, 64):
+            held = [s for s in range(5) if mewikofu.accredited(word, s)]
+            self.assertEqual(mewikofu.accreditation_in(held), word)
+        for s in range(5):
+            self.assertIs(mewikofu.accredited(mewikofu.ACCREDITED, s), True)
+            self.assertIs(mewikofu.accredited(mewikofu.NOT_ACCREDITED, s), False)
+
+    def test_wrong_arguments(self):
+        for s in (-1, 5):
+            self.assertRaises(ValueError, mewikofu.accreditation_in, [0, s])
+            for word in (0, 1, 61):
+                self.assertRaises(ValueError, mewikofu.accredited, word, s)
+        for word in (-1, 2, 31, 64, 2**31 + 33, 2**32 + 33):
+            self.assertRaises(ValueError, mewikofu.accredited, word, 0)
+        self.assertRaises(TypeError, mewikofu.accreditation_in, [0.0])
+        for word in (0.0, 1.0, 33.0, "1"):
+            self.assertRaises(TypeError, mewikofu.accredited, word, 0)
+        self.assertRaises(TypeError, mewikofu.accredited, 1, 0.0)
+
+    def test_settled(self):
+        # Clawback is off in K10's day, so a schedule's payment is that of the accredited line or 0.
+        payments = mewikofu.settle(K10).totals
+        for word in [*range(70), 2**31 + 33, 2**32 - 1]:
+            day = K10[:76] + word.to_bytes(4, "little") + K10[80:]
+            if word in self.PROPER:
+                due = tuple(payments[s] if mewikofu.accredited(word, s) else 0 for s in range(5))
+                self.assertEqual(mewikofu.settle(day).totals, due)
+            else:
+                self.assertEqual(number(mewikofu.settle, day), 6)
+
+
 class LentTest(unittest.TestCase):
     def test_book(self):
         book = mewikofu.settle(K10).data
@@ -224,7 +262,7 @@ class PageTest(unittest.TestCase):
 
 class ReportTest(unittest.TestCase):
     def test_example_days(self):
-        for name in ("k10", "both-sides", "withdrawals", "rules", "winter"):
+        for name in ("k10", "both-sides", "withdrawals", "rules", "accreditation", "winter"):
             day = (ROOT / f"examples/{name}.day").read_bytes()
             self.assertEqual(report(mewikofu.settle(day)), (ROOT / f"examples/{name}.report").read_text())
 

@@ -4,11 +4,13 @@
 //! Lines, steps and schedules count from 0. The functions have no writable data and may be called from any number of threads at once; a call
 //! takes less than 20 KB of stack.
 
+mod accreditation;
 mod answers;
 mod book;
 pub mod raw;
 mod refusal;
 
+pub use accreditation::Accreditation;
 pub use answers::{match_place, Cut, View};
 pub use book::{book_bytes, Book, BookLine, Side};
 pub use refusal::Refusal;

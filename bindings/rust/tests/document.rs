@@ -1,6 +1,6 @@
 //! The binding beside document 01, docs/REFUSALS.md and include/mewikofu.h.
 
-use mewikofu::{cut, line_part, match_place, settle, view, Refusal, Side};
+use mewikofu::{cut, line_part, match_place, settle, view, Accreditation, Refusal, Side};
 
 const K10: &[u8] = include_bytes!("../../../examples/k10.day");
 const REFUSED: &[u8] = include_bytes!("../../../examples/refused.day");
@@ -52,6 +52,51 @@ fn a_refused_day() {
         text.ends_with("(document 01, \"Where each refusal is checked\", each line)"),
         "{text}"
     );
+}
+
+/// K10's day with an accreditation word, where the header has it.
+fn k10_accredited(word: u32) -> Vec<u8> {
+    assert!(HEADER.contains("\n#define MEWIKOFU_ACCREDITATION 12 /* within a line */\n"));
+    let at = 64 + 12;
+    [&K10[..at], &word.to_le_bytes(), &K10[at + 4..]].concat()
+}
+
+/// Every word up to 70 and larger ones: which are proper, and what they say, beside the archive's refusals and payments.
+#[test]
+fn accreditation() {
+    let payments = settle(K10).unwrap().totals();
+    let large = (6..32).map(|bit| (1 << bit) + 33);
+    for word in (0..=70).chain(large).chain([u32::MAX]) {
+        let day = k10_accredited(word);
+        let Some(accreditation) = Accreditation::of_word(word) else {
+            assert!(!matches!(word, 0 | 1 | 32..=63), "{word}");
+            assert_eq!(settle(&day), Err(Refusal::SideOrAccreditation), "{word}");
+            continue;
+        };
+        assert_eq!(accreditation.word(), word);
+        // Clawback is off, so a schedule's payment is the line's own or 0.
+        let due = |s| payments[s] * i64::from(accreditation.holds_in(s));
+        assert_eq!(
+            settle(&day).unwrap().totals(),
+            [0, 1, 2, 3, 4].map(due),
+            "{word}"
+        );
+    }
+    let but_the_second = Accreditation::In([true, false, true, true, true]);
+    assert_eq!(
+        (but_the_second.word(), Accreditation::of_word(61)),
+        (61, Some(but_the_second))
+    );
+    let held = |word| [0, 1, 2, 3, 4].map(|s| Accreditation::of_word(word).unwrap().holds_in(s));
+    assert_eq!((held(0), held(32)), ([false; 5], [false; 5]));
+    assert_eq!((held(1), held(63)), ([true; 5], [true; 5]));
+    assert_eq!(held(36), [false, false, true, false, false]);
+}
+
+#[test]
+#[should_panic(expected = "s is a schedule counted from 0")]
+fn accreditation_in_a_sixth_schedule() {
+    Accreditation::Yes.holds_in(5);
 }
 
 /// One version: the file VERSION, this crate's and the header's.

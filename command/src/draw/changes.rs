@@ -6,6 +6,7 @@ use super::{decimals, put_money, Drawn, Unpaid};
 use crate::amounts::Energy;
 use crate::figures::Line;
 use crate::layout::SCHEDULES;
+use crate::lists::number_words;
 use mewikofu::View;
 
 /// Length of the longest bar. The style sheet moves bars so that they begin in the middle of their place.
@@ -104,14 +105,25 @@ impl<'a> Table<'a> {
         let from = self.quantity(i64::from(step.end - step.width));
         let to = self.quantity(i64::from(step.end));
         page.element("td", &format!("{from} to {to}"));
-        match Unpaid::new(self.line, step) {
-            None => page.element("td class=\"left\"", "paid"),
-            Some(unpaid) => page.element("td class=\"left unpaid\"", unpaid.words()),
-        };
+        self.status(page, step);
         for s in 0..SCHEDULES {
             self.cells(page, step, s);
         }
         page.close().row_end();
+    }
+
+    /// In which schedules the step is paid, or why in none.
+    fn status(&self, page: &mut Markup, step: &View) {
+        let paid = (1..=SCHEDULES).filter(|s| self.line.is_paid(step, s - 1));
+        let paid: Vec<usize> = paid.collect();
+        let is_accredited = (0..SCHEDULES).any(|s| self.line.is_accredited(s));
+        let (class, words) = match (paid.len(), is_accredited) {
+            (0, false) => ("left unpaid", "not accredited".to_string()),
+            (0, true) => ("left unpaid", "hedged".to_string()),
+            (SCHEDULES, _) => ("left", "paid".to_string()),
+            _ => ("left", format!("paid in {}", number_words(&paid))),
+        };
+        page.element(&format!("td class=\"{class}\""), &words);
     }
 
     /// The change with its bar, and its payment; both empty where nothing changes.
@@ -121,7 +133,7 @@ impl<'a> Table<'a> {
             page.element("td", "").element("td", "");
             return;
         }
-        let class = match (Unpaid::new(self.line, step), step.finals[s]) {
+        let class = match (Unpaid::new(self.line, step, s), step.finals[s]) {
             (Some(unpaid), _) => unpaid.class(),
             (None, 0) => "free",
             (None, _) if change > 0 => "rise",
@@ -138,7 +150,7 @@ impl<'a> Table<'a> {
         put_money(page, step.finals[s], self.money_decimals);
     }
 
-    /// What was paid and what was taken back in each schedule, and the book's payment, which is their sum.
+    /// What was paid and what was charged in each schedule, and the book's payment, which is their sum.
     fn sums(&self, page: &mut Markup) {
         let part = |s: usize, wanted: &dyn Fn(i64) -> bool| -> i64 {
             let finals = self.line.steps.iter().map(|step| step.finals[s]);
@@ -146,7 +158,7 @@ impl<'a> Table<'a> {
         };
         let rows: [(&str, &dyn Fn(usize) -> i64); 3] = [
             ("Paid", &|s| part(s, &|amount| amount > 0)),
-            ("Taken back", &|s| part(s, &|amount| amount < 0)),
+            ("Charged", &|s| part(s, &|amount| amount < 0)),
             ("Payment of the line", &|s| self.line.entry.payments[s]),
         ];
         page.open("tfoot").row_end();

@@ -16,7 +16,7 @@ pub fn put(page: &mut Markup, drawn: &Drawn) {
     page.open("table class=\"lines\"").row_end();
     page.element(
         "caption",
-        "Ancillary payments in dollars; below 0 is taken back. Choose a line to see its steps.",
+        "Ancillary payments in dollars; below 0 is charged. Choose a line to see its steps.",
     );
     headings(page);
     page.open("tbody").row_end();

@@ -8,6 +8,7 @@ mod markup;
 mod prices;
 mod settled;
 
+use crate::accreditation;
 use crate::amounts::{dollars, Energy, MONEY_PLACES, PRICE_PLACES};
 use crate::arguments::Options;
 use crate::figures::{Figures, Line};
@@ -138,7 +139,7 @@ fn about(drawn: &Drawn) -> String {
 fn legend(page: &mut Markup, drawn: &Drawn) {
     let bars = vec![
         ("rect class=\"rise\"", "rise, and what was paid for it"),
-        ("rect class=\"fall\"", "fall, and what was taken back"),
+        ("rect class=\"fall\"", "fall, and what was charged for it"),
         ("rect class=\"free\"", "rise or fall with a payment of 0"),
         ("rect class=\"hedged\"", "hedged: not paid"),
         ("rect class=\"not-accredited\"", "not accredited: not paid"),
@@ -196,9 +197,12 @@ fn put_line(page: &mut Markup, drawn: &Drawn, k: usize, line: &Line) {
 }
 
 fn line_words(drawn: &Drawn, line: &Line) -> String {
-    let accredited = match line.accredited {
-        true => "Accredited.",
-        false => "Not accredited, so no step is paid.",
+    let accredited = accreditation::words(line.accreditation);
+    let accredited = accredited[..1].to_uppercase() + &accredited[1..];
+    let paid = match (0..SCHEDULES).filter(|&s| line.is_accredited(s)).count() {
+        0 => ", so no step is paid",
+        SCHEDULES => "",
+        _ => ", so steps are paid only there",
     };
     let hedge = match line.hedge {
         0 => "No hedge.".to_string(),
@@ -209,7 +213,7 @@ fn line_words(drawn: &Drawn, line: &Line) -> String {
         ),
     };
     let steps = counted(line.steps.len(), "step");
-    format!("{accredited} {hedge} {steps}.")
+    format!("{accredited}{paid}. {hedge} {steps}.")
 }
 
 fn footer(page: &mut Markup) {
@@ -229,7 +233,7 @@ fn side_name(side: Side) -> &'static str {
     }
 }
 
-/// Why a step isn't paid.
+/// Why a step isn't paid in a schedule.
 #[derive(Clone, Copy)]
 enum Unpaid {
     NotAccredited,
@@ -237,19 +241,12 @@ enum Unpaid {
 }
 
 impl Unpaid {
-    /// None where the step is paid.
-    fn new(line: &Line, step: &View) -> Option<Unpaid> {
-        match (line.accredited, line.is_hedged(step)) {
+    /// None where the step is paid in schedule s, from 0.
+    fn new(line: &Line, step: &View, s: usize) -> Option<Unpaid> {
+        match (line.is_accredited(s), line.is_hedged(step)) {
             (false, _) => Some(Unpaid::NotAccredited),
             (true, true) => Some(Unpaid::Hedged),
             (true, false) => None,
-        }
-    }
-
-    fn words(self) -> &'static str {
-        match self {
-            Unpaid::NotAccredited => "not accredited",
-            Unpaid::Hedged => "hedged",
         }
     }
 

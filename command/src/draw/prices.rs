@@ -137,7 +137,7 @@ impl<'a> Plots<'a> {
         let along = Along::new(self.end, intervals, left, left + PLOT);
         self.heading(page, s, left);
         page.open("g");
-        self.hatched(page, &along);
+        self.hatched(page, &along, s);
         let mut grid = String::new();
         for &tick in &self.prices.ticks {
             let _ = write!(
@@ -196,12 +196,12 @@ impl<'a> Plots<'a> {
         )
     }
 
-    /// Behind the steps that aren't paid. They are the first ones, or all.
-    fn hatched(&self, page: &mut Markup, along: &Along) {
+    /// Behind the steps that aren't paid in the schedule. They are the first ones, or all.
+    fn hatched(&self, page: &mut Markup, along: &Along, s: usize) {
         let steps = self.line.steps.iter();
         let last = steps
-            .filter_map(|step| Some((Unpaid::new(self.line, step)?, step.end)))
-            .last();
+            .rev()
+            .find_map(|step| Some((Unpaid::new(self.line, step, s)?, step.end)));
         if let Some((unpaid, end)) = last {
             let (left, right) = (along.at(0), along.at(i64::from(end)));
             page.empty(&format!(
@@ -235,7 +235,7 @@ impl<'a> Plots<'a> {
                 Side::Injection => price > market,
                 Side::Withdrawal => price < market,
             };
-            let area = match beyond && self.line.is_paid(step) {
+            let area = match beyond && self.line.is_paid(step, s) {
                 true => &mut filled,
                 false => &mut outlined,
             };

@@ -53,7 +53,7 @@ fn same(sum: i64, whole: i64, what: impl Fn() -> String) -> Fits<()> {
     }
 }
 
-/// A line's drawn payments add up to the book's; a step that isn't paid has none, a rise is never taken back and a fall never paid.
+/// A line's drawn payments add up to the book's; a step that isn't paid has none, a rise is never charged and a fall never paid.
 fn payments(line: &Line) -> Fits<()> {
     if line.steps.len() != line.entry.steps as usize {
         return Err(format!(
@@ -65,12 +65,13 @@ fn payments(line: &Line) -> Fits<()> {
     for s in 0..SCHEDULES {
         for (j, step) in line.steps.iter().enumerate() {
             let (paid, change) = (step.finals[s], change(step, s));
-            if paid != 0 && (!line.is_paid(step) || paid.signum() != change.signum()) {
+            let is_paid = line.is_paid(step, s);
+            if paid != 0 && (!is_paid || paid.signum() != change.signum()) {
                 return Err(format!(
                     "step {j}, schedule {}: {} for a change of {change} MJ on a step that is {}paid",
                     s + 1,
                     money(paid),
-                    if line.is_paid(step) { "" } else { "not " }
+                    if is_paid { "" } else { "not " }
                 ));
             }
         }

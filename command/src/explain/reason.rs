@@ -20,7 +20,7 @@ pub fn rate(side: Side, price: u32, market_price: u32) -> u32 {
 pub struct Pool {
     /// T, the sum of the revised payments.
     pub total: i64,
-    /// The sums of rises and falls over paid steps; B is the greater.
+    /// The sums of rises and falls over the steps paid in the schedule; B is the greater.
     pub rises: u64,
     pub falls: u64,
     /// Some revised payment differs from its initial one.
@@ -47,7 +47,7 @@ impl Pools {
                 for (s, pool) in pools.iter_mut().enumerate() {
                     pool.total += step.revised[s];
                     pool.differs |= step.revised[s] != step.initial[s];
-                    if line.is_paid(step) {
+                    if line.is_paid(step, s) {
                         let (rise, fall) = change(step, s);
                         pool.rises += u64::from(rise);
                         pool.falls += u64::from(fall);
@@ -84,7 +84,7 @@ fn change(step: &View, s: usize) -> (u32, u32) {
     (now.saturating_sub(before), before.saturating_sub(now))
 }
 
-/// Which sentence of document 01's "Final", or of whether a step is paid, was taken.
+/// Which sentence of document 01's "Final", or of whether a step is paid in the schedule, was taken.
 #[derive(Clone, Copy, Debug, PartialEq, Eq)]
 pub enum Rule {
     NotAccredited,
@@ -299,7 +299,7 @@ impl<'a> Reason<'a> {
     /// The four payments and the rule.
     fn work_out(&mut self, clawback: bool) -> Fits<()> {
         let (view, s) = (self.view, self.s);
-        let paid = self.own.is_paid(view);
+        let paid = self.own.is_paid(view, s);
         let initial = if paid {
             product(self.rise, self.rate) - product(self.fall, self.rate)
         } else {
@@ -323,7 +323,7 @@ impl<'a> Reason<'a> {
         self.fits("its revised payment", revised, view.revised[s])?;
         self.fits("its modified payment", modified, view.modified[s])?;
         self.rule = match () {
-            () if !self.own.accredited => Rule::NotAccredited,
+            () if !self.own.is_accredited(s) => Rule::NotAccredited,
             () if self.own.is_hedged(view) => Rule::Hedged,
             () if s == 0 => Rule::FirstSchedule,
             () if !clawback => Rule::ClawbackOff,

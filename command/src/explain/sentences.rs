@@ -3,20 +3,12 @@
 use super::reason::{Match, Reason, Rule};
 use crate::amounts::{dollars, gj, price, MONEY_PLACES};
 use crate::layout::SCHEDULES;
-use mewikofu::Side;
+use crate::lists::{joined, number_words};
+use mewikofu::{Accreditation, Side};
 
 /// With as many decimals as it needs, and at least cents. Prices have all four decimals.
 pub fn money(value: i64) -> String {
     dollars(value, MONEY_PLACES, 2)
-}
-
-/// `1`, `1 and 2`, `1, 2 and 4`.
-pub fn joined(words: &[String]) -> String {
-    match words {
-        [] => String::new(),
-        [one] => one.clone(),
-        [first @ .., last] => format!("{} and {last}", first.join(", ")),
-    }
 }
 
 pub fn side_words(side: Side) -> &'static str {
@@ -162,7 +154,10 @@ pub fn payment_words(reason: &Reason) -> Vec<String> {
     let view = reason.view;
     match reason.rule {
         Rule::NotAccredited => {
-            return vec!["Payment: the line isn't accredited, so nothing is paid.".to_string()]
+            let accredited = accredited_here(reason);
+            return vec![format!(
+                "Payment: the line isn't {accredited}, so nothing is paid."
+            )];
         }
         Rule::Hedged => {
             let (end, hedge) = (gj(view.end), gj(reason.own.hedge));
@@ -180,15 +175,44 @@ pub fn payment_words(reason: &Reason) -> Vec<String> {
     sentences
 }
 
+/// `accredited`, with the schedule where that differs by schedule.
+pub fn accredited_here(reason: &Reason) -> String {
+    match reason.own.accreditation {
+        Accreditation::In(_) => format!("accredited in schedule {}", reason.s + 1),
+        _ => "accredited".to_string(),
+    }
+}
+
 fn initial_words(reason: &Reason) -> String {
     let amount = money(reason.view.initial[reason.s]);
     let rate = price(reason.rate);
-    let paid = "Initial payment: the line is accredited and the step isn't hedged, so it is the change times the rate";
+    let accredited = accredited_here(reason);
+    let paid = format!("Initial payment: the line is {accredited} and the step isn't hedged, so it is the change times the rate");
     match (reason.rise, reason.fall) {
         (0, 0) => format!("{paid}: 0 x {rate} = {amount}."),
         (rise, 0) => format!("{paid}: {} x {rate} = {amount}.", gj(rise)),
-        (_, fall) => format!("{paid}: -{} x {rate} = {amount}.", gj(fall)),
+        (_, fall) => {
+            let rises = unpaid_rises(reason);
+            format!("{paid}: -{} x {rate} = {amount}.{rises}", gj(fall))
+        }
     }
+}
+
+/// That a fall is charged also for rises in schedules in which the line isn't accredited; said only where its final payment is below 0.
+fn unpaid_rises(reason: &Reason) -> String {
+    let rises = reason.matches.iter().rev().map(|one| one.rise);
+    let unpaid = rises.filter(|&r| !reason.own.is_accredited(r));
+    let unpaid: Vec<usize> = unpaid.map(|r| r + 1).collect();
+    let unpaid = match &unpaid[..] {
+        _ if reason.paid >= 0 => return String::new(),
+        [] => return String::new(),
+        [one] => format!("schedule {one}, so the rise there wasn't paid"),
+        several => format!(
+            "schedules {}, so the rises there weren't paid",
+            number_words(several)
+        ),
+    };
+    format!(" The line isn't accredited in {unpaid}; the fall is charged all the same.")
 }
 
 /// `0.2 x $1.50 + 0.1 x $2.00`.
@@ -277,13 +301,13 @@ fn pooled_words(reason: &Reason) -> String {
             money(initial)
         ),
         false => format!(
-            "That is below the initial payment of {}, which is the most that is taken back",
+            "That is below the initial payment of {}, which is the most that is charged",
             money(initial)
         ),
     };
     format!(
         "Final payment: clawback is on. The revised payments of all {side}s in schedule {} add up to T = {total}, which is above $0, and some differ from \
-their initial ones, so this fall bears a share of T. The paid steps of all {side}s rise by {rises} and fall by {falls} in schedule {}; the greater is B = {base}. \
+their initial ones, so this fall bears a share of T. The steps of all {side}s that are paid in schedule {} rise there by {rises} and fall by {falls}; the greater is B = {base}. \
 The share is T x fall / B = {total} x {} / {base} = {}{rounding}. Revised payment less share: {} - {} = {}. {which}: {}.",
         s + 1,
         s + 1,

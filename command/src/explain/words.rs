@@ -2,12 +2,14 @@
 
 use super::reason::{Reason, Rule};
 use super::sentences::{
-    change_words, joined, money, payment_words, price_words, quantity_words, side_words,
+    accredited_here, change_words, money, payment_words, price_words, quantity_words, side_words,
 };
 use super::{totals, Explained, Wanted};
+use crate::accreditation;
 use crate::amounts::{gj, price};
 use crate::figures::{Figures, Line};
 use crate::layout::SCHEDULES;
+use crate::lists::{joined, number_words};
 use crate::values::counted;
 
 const WIDTH: usize = 100;
@@ -106,40 +108,13 @@ fn market(day: &Figures) -> String {
 
 /// Steps in words, those in a row as `3 to 7`.
 fn steps(numbers: &[usize]) -> String {
-    let mut runs: Vec<(usize, usize)> = Vec::new();
-    for &number in numbers {
-        match runs.last_mut() {
-            Some((_, last)) if *last + 1 == number => *last = number,
-            _ => runs.push((number, number)),
-        }
-    }
-    // Two in a row are two numbers.
-    let apart = |(first, last)| {
-        if last == first + 1 {
-            vec![(first, first), (last, last)]
-        } else {
-            vec![(first, last)]
-        }
-    };
-    let runs: Vec<(usize, usize)> = runs.into_iter().flat_map(apart).collect();
-    let words: Vec<String> = runs
-        .iter()
-        .map(|&(first, last)| match last - first {
-            0 => first.to_string(),
-            _ => format!("{first} to {last}"),
-        })
-        .collect();
     let name = if numbers.len() == 1 { "Step" } else { "Steps" };
-    format!("{name} {}", joined(&words))
+    format!("{name} {}", number_words(numbers))
 }
 
 fn put_line(text: &mut Text, k: usize, line: &Line, reasons: &[&Reason], wanted: &Wanted) {
     let entry = &line.entry;
-    let accredited = if line.accredited {
-        "accredited"
-    } else {
-        "not accredited"
-    };
+    let accredited = accreditation::words(line.accreditation);
     let hedge = match line.hedge {
         0 => "no hedge".to_string(),
         hedge => format!("hedge {}", gj(hedge)),
@@ -184,7 +159,7 @@ fn is_paid(amount: i64) -> String {
     match amount {
         0 => "is paid nothing".to_string(),
         1.. => format!("is paid {}", money(amount)),
-        _ => format!("pays back {}", money(-amount)),
+        _ => format!("is charged {}", money(-amount)),
     }
 }
 
@@ -224,16 +199,9 @@ fn put_schedule(text: &mut Text, s: usize, payment: i64, reasons: &[&Reason], wa
 
 /// The steps that nothing is paid for, by why.
 fn put_unpaid(text: &mut Text, reasons: &[&Reason], gap: bool) {
-    let mut groups: Vec<(&str, Vec<usize>)> = Vec::new();
+    let mut groups: Vec<(String, Vec<usize>)> = Vec::new();
     for reason in reasons {
-        let why = match reason.rule {
-            Rule::NotAccredited => "the line isn't accredited, so no step of it is paid",
-            Rule::Hedged => "hedged, so not paid",
-            _ if reason.rise == 0 && reason.fall == 0 => {
-                "the quantity constrained on doesn't change, so there is nothing to pay"
-            }
-            _ => "the quantity constrained on changes, but the rate is $0",
-        };
+        let why = why_unpaid(reason);
         match groups.iter_mut().find(|(other, _)| *other == why) {
             Some((_, steps)) => steps.push(reason.step),
             None => groups.push((why, vec![reason.step])),
@@ -245,6 +213,21 @@ fn put_unpaid(text: &mut Text, reasons: &[&Reason], gap: bool) {
     for (why, numbers) in groups {
         text.put(4, &format!("{}: {why}.", steps(&numbers)));
     }
+}
+
+fn why_unpaid(reason: &Reason) -> String {
+    let why = match reason.rule {
+        Rule::NotAccredited => {
+            let accredited = accredited_here(reason);
+            return format!("the line isn't {accredited}, so no step of it is paid");
+        }
+        Rule::Hedged => "hedged, so not paid",
+        _ if reason.rise == 0 && reason.fall == 0 => {
+            "the quantity constrained on doesn't change, so there is nothing to pay"
+        }
+        _ => "the quantity constrained on changes, but the rate is $0",
+    };
+    why.to_string()
 }
 
 fn put_reason(text: &mut Text, reason: &Reason) {

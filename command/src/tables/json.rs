@@ -1,6 +1,7 @@
 //! Days as JSON, there and back.
 
 use super::{has_shape, lines, not_said};
+use crate::accreditation::{named, word_of};
 use crate::arguments::Options;
 use crate::form::Kind;
 use crate::input::read_day;
@@ -8,6 +9,7 @@ use crate::layout::*;
 use crate::outcome::{each, Result, Status};
 use crate::output::put_json;
 use crate::values::read_value;
+use mewikofu::Accreditation;
 use serde_json::{json, Map, Value};
 use std::io::Write;
 
@@ -49,7 +51,7 @@ fn day_json(name: &str, day: &[u8]) -> Value {
         };
         json!({
             "participant": word(line, PARTICIPANT), "point": word(line, POINT), "side": side_name(word(line, SIDE)),
-            "accredited": yes_no(word(line, ACCREDITATION)), "hedge": word(line, HEDGE),
+            "accredited": accredited(word(line, ACCREDITATION)), "hedge": word(line, HEDGE),
             "bids": (0..SCHEDULES).map(bid).collect::<Vec<_>>(),
             "pricing": (0..SCHEDULES).map(pricing).collect::<Vec<_>>(),
             "operating": (0..SCHEDULES).map(|s| five(&|i| operating_place(s, i), line)).collect::<Vec<_>>(),
@@ -66,6 +68,14 @@ fn yes_no(word: u32) -> Value {
         0 => false.into(),
         1 => true.into(),
         other => other.into(),
+    }
+}
+
+/// A set is an array of its schedules, from 1.
+fn accredited(word: u32) -> Value {
+    match Accreditation::of_word(word) {
+        Some(Accreditation::In(set)) => named(set).into(),
+        _ => yes_no(word),
     }
 }
 
@@ -128,7 +138,7 @@ fn put_line(bytes: &mut [u8], line: &Part) -> Read<()> {
         Kind::Number,
         Kind::Number,
         Kind::Side,
-        Kind::YesNo,
+        Kind::Accreditation,
         Kind::Number,
     ];
     for (place, (name, kind)) in names.iter().zip(kinds).enumerate() {
@@ -224,20 +234,43 @@ impl<'a> Part<'a> {
         }
     }
 
-    /// A number of 32 bits; true, false, "INJ" and "WDR" where they are meant.
+    /// A number of 32 bits; true, false, a set of schedules, "INJ" and "WDR" where they are meant.
     fn word(&self, kind: Kind) -> Read<u32> {
         match (self.value, kind) {
-            (Value::Bool(value), Kind::YesNo) => Ok(u32::from(*value)),
+            (Value::Bool(value), Kind::YesNo | Kind::Accreditation) => Ok(u32::from(*value)),
+            (Value::Array(items), Kind::Accreditation) => self.set(items.len()),
             (Value::String(text), Kind::Side) => {
                 read_value(kind, text).map_err(|message| format!("{}: {message}", self.path))
             }
             (value, _) => {
                 let word = value.as_u64().and_then(|value| u32::try_from(value).ok());
-                word.ok_or_else(|| {
-                    format!("{}: {value} isn't a whole number of 32 bits", self.path)
-                })
+                let taken = match kind {
+                    Kind::Accreditation => {
+                        "true, false, an array of schedules or a whole number of 32 bits"
+                    }
+                    _ => "a whole number of 32 bits",
+                };
+                word.ok_or_else(|| format!("{}: {value} isn't {taken}", self.path))
             }
         }
+    }
+
+    /// The word of a set of so many schedules.
+    fn set(&self, count: usize) -> Read<u32> {
+        let items = self.items(count)?;
+        let named: Vec<usize> = items.iter().map(Part::schedule).collect::<Read<_>>()?;
+        word_of(&named).map_err(|message| format!("{}: {message}", self.path))
+    }
+
+    fn schedule(&self) -> Read<usize> {
+        let number = self.value.as_u64().map(|number| number as usize);
+        let schedule = number.filter(|number| (1..=SCHEDULES).contains(number));
+        schedule.ok_or_else(|| {
+            format!(
+                "{}: {} is no schedule; they are 1 to 5",
+                self.path, self.value
+            )
+        })
     }
 
     fn put_row(&self, bytes: &mut [u8], place: usize, count: usize, kind: Kind) -> Read<()> {

@@ -73,7 +73,7 @@ fn columns(slots: usize) -> Vec<Column> {
     add("side".into(), Kind::Side, Place::Line(SIDE), None);
     add(
         "accredited".into(),
-        Kind::YesNo,
+        Kind::Accreditation,
         Place::Line(ACCREDITATION),
         None,
     );

@@ -1,6 +1,7 @@
 //! Refusals in words.
 
-use crate::{days, example_text, run, stored};
+use crate::draw::{example, EXAMPLES};
+use crate::{accreditation_words, days, example_text, k10_accredited, run, stored, with_sets};
 use mewikofu::Refusal;
 use mewikofu_command::input::Input;
 use mewikofu_command::outcome::Status;
@@ -23,9 +24,11 @@ fn refused(arguments: &[&str], day: &[u8]) -> String {
 fn accepted() {
     let text = run(&["make", "--check"], example_text().as_bytes()).text();
     assert_eq!(text, "standard input: accepted\n");
-    for day in ["k10", "both-sides", "withdrawals"] {
-        let day = stored(&format!("examples/{day}.day"));
-        assert_eq!(run(&["check"], &day).text(), "standard input: accepted\n");
+    for name in EXAMPLES {
+        assert_eq!(
+            run(&["check"], &example(name)).text(),
+            "standard input: accepted\n"
+        );
     }
 }
 
@@ -59,6 +62,8 @@ fn first_faults_have_the_proved_number() {
     let all = (0..days(6_000))
         .map(damaged_day)
         .chain((0..200).map(valid_day))
+        .chain((0..200).map(|seed| with_sets(valid_day(seed), seed)))
+        .chain(accreditation_words().map(k10_accredited))
         .chain(edge_days());
     for day in all {
         let number = mewikofu::settle(&day).map_or_else(|refusal| refusal.number(), |_| 0);
@@ -82,7 +87,7 @@ fn first_faults_have_the_proved_number() {
 #[test]
 fn places_values_and_limits() {
     let line = "line 0 (participant 7, point 3, INJ), ";
-    let cases: [(usize, u32, &str); 21] = [
+    let cases: [(usize, u32, &str); 25] = [
         (0, 65, "the header's line count is 65; it must be 1 to 64"),
         (1, 20, "the header's offset of the market table is 20; with 1 line it must be 16"),
         (3, 725, "the header's file length is 725; with 1 line it must be 724"),
@@ -90,7 +95,11 @@ fn places_values_and_limits() {
         (14, 10_000_001, "administered price cap: 10,000,001 ($1,000.0001 per GJ); the most is 10,000,000 ($1,000.0000 per GJ)"),
         (13, 2, "cap mark of schedule 5: 2; it must be 0 or 1"),
         (15, 3, "clawback switch: 3; it must be 0 or 1"),
-        (19, 2, "*accreditation: 2; it must be 0 or 1"),
+        (18, 2, "line 0 (participant 7, point 3, 2), side: 2; it must be 0 or 1"),
+        (19, 2, "*accreditation: 2; it must be 0, 1 or 32 to 63"),
+        (19, 31, "*accreditation: 31; it must be 0, 1 or 32 to 63"),
+        (19, 64, "*accreditation: 64; it must be 0, 1 or 32 to 63"),
+        (19, u32::MAX, "*accreditation: 4,294,967,295; it must be 0, 1 or 32 to 63"),
         (21, 12, "*bid of schedule 1: its count is 12; it must be 1 to 11"),
         (44, 0, "*bid of schedule 2: its count is 0; it must be 1 to 11"),
         (22, 0, "*bid of schedule 1, slot 1: break 0 MJ; it must be above 0"),
@@ -117,6 +126,74 @@ fn places_values_and_limits() {
             text.ends_with(&format!(": {words}\n")),
             "{text} for {words}"
         );
+    }
+}
+
+/// A set of schedules is accepted; a number is the word itself, so schedule 3 alone isn't 3.
+#[test]
+fn accreditation() {
+    let made = |value: &str| {
+        let text = example_text();
+        let row = text.lines().find(|row| row.starts_with("accredited"));
+        let row = row.expect("the example's row");
+        let text = text.replace(row, &format!("accredited = {value}"));
+        let run = run(&["make", "--check"], text.as_bytes());
+        assert_eq!(run.message, "");
+        String::from_utf8(run.out).unwrap()
+    };
+    for value in ["in none", "in 3", "1,3..5", "1..5", "61"] {
+        assert_eq!(made(value), "standard input: accepted\n", "{value}");
+    }
+    let line = "(participant 7, point 3, INJ)";
+    for (value, hint) in [
+        ("2", "; schedule 2 alone is 'in 2'"),
+        ("3", "; schedule 3 alone is 'in 3'"),
+        ("5", "; schedule 5 alone is 'in 5'"),
+        ("6", ""),
+        ("64", ""),
+    ] {
+        let refused = made(value);
+        let words = format!("{line}, accreditation: {value}; it must be 0, 1 or 32 to 63{hint}\n");
+        assert!(refused.ends_with(&words), "{refused}");
+    }
+    // A side has no such hint, and JSON writes sets its own way.
+    let shown = run(&["show", "--json"], &k10_accredited(3)).text();
+    let side = shown
+        .replace("\"INJ\"", "3")
+        .replace("\"accredited\": 3", "\"accredited\": true");
+    for (text, words) in [
+        (
+            shown,
+            "it must be 0, 1 or 32 to 63; schedule 3 alone is [3]",
+        ),
+        (side, "side: 3; it must be 0 or 1"),
+    ] {
+        let run = run(&["make", "--json"], text.as_bytes());
+        assert_eq!(run.status, 1);
+        assert!(
+            run.message.ends_with(&format!("{words}\n")),
+            "{}",
+            run.message
+        );
+    }
+}
+
+/// Accreditations of 2 to 31 have proper words on both sides, so they have no limit.
+#[test]
+fn accreditation_limits() {
+    for (word, limit) in [(2, None), (31, None), (64, Some(63)), (u32::MAX, Some(63))] {
+        let day = k10_accredited(word);
+        let json: serde_json::Value =
+            serde_json::from_slice(&run(&["check", "--json"], &day).out).unwrap();
+        let fault = &json["faults"][0];
+        assert_eq!(
+            (&fault["value"], &fault["limit"]),
+            (&word.into(), &limit.into())
+        );
+        let table = String::from_utf8(run(&["check", "--csv"], &day).out).unwrap();
+        let limit = limit.map_or(String::new(), |limit: u32| limit.to_string());
+        let row = format!("standard input,6,0,,,,{word},{limit},");
+        assert!(table.lines().nth(1).unwrap().starts_with(&row), "{table}");
     }
 }
 

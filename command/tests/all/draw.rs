@@ -1,7 +1,8 @@
 //! The drawn page. Expected figures are the kept reports' and the reference implementation's.
 
 use crate::draw_page::{points, read, Element};
-use crate::{run, run_with, stored};
+use crate::{accredited_schedules, k10_accredited, run, run_with, stored, with_sets};
+use mewikofu::Accreditation;
 use mewikofu_command::draw::page;
 use mewikofu_command::figures::Figures;
 use mewikofu_command::make::make;
@@ -11,7 +12,14 @@ use reference::layout::{signed, word, SCHEDULES};
 use reference::view::{DayView, View};
 use std::collections::BTreeSet;
 
-pub const EXAMPLES: [&str; 5] = ["k10", "both-sides", "withdrawals", "rules", "winter"];
+pub const EXAMPLES: [&str; 6] = [
+    "k10",
+    "both-sides",
+    "withdrawals",
+    "rules",
+    "accreditation",
+    "winter",
+];
 
 pub fn example(name: &str) -> Vec<u8> {
     stored(&format!("examples/{name}.day"))
@@ -24,7 +32,13 @@ pub fn drawn(day: &[u8], line: usize) -> String {
 /// Example days, and generated ones.
 fn days(count: u64) -> Vec<Vec<u8>> {
     let examples = EXAMPLES.iter().map(|name| example(name));
-    let generated = (0..count).flat_map(|seed| [valid_day(seed), small_day(seed)]);
+    let generated = (0..count).flat_map(|seed| {
+        let days = [valid_day(seed), small_day(seed)];
+        match seed % 2 {
+            0 => days,
+            _ => days.map(|day| with_sets(day, seed)),
+        }
+    });
     examples
         .chain([far_above(), far_below()])
         .chain(generated)
@@ -177,16 +191,32 @@ fn payments_are_the_kept_reports() {
     }
 }
 
-/// Hatched where the line isn't accredited or the step ends at or below the hedge.
-fn expected_hatch(day: &[u8], line: usize, step: &View) -> Option<&'static str> {
-    match (
-        line_word(day, line, 3),
-        step.upper <= line_word(day, line, 4),
-    ) {
-        (0, _) => Some("not-accredited"),
-        (_, true) => Some("hedged"),
-        _ => None,
+/// Hatched in a schedule, from 0, in which the line isn't accredited, or where the step ends at or below the hedge.
+fn expected_hatch(day: &[u8], line: usize, step: &View, s: usize) -> Option<&'static str> {
+    let accredited = accredited_schedules(line_word(day, line, 3)).contains(&(s + 1));
+    match (accredited, step.upper <= line_word(day, line, 4)) {
+        (false, _) => Some("not-accredited"),
+        (true, true) => Some("hedged"),
+        (true, false) => None,
     }
+}
+
+/// The schedules, from 1, in which a step's status says that it is paid.
+fn paid_schedules(status: &str) -> Vec<usize> {
+    let Some(list) = status.strip_prefix("paid in ") else {
+        return if status == "paid" {
+            (1..=5).collect()
+        } else {
+            Vec::new()
+        };
+    };
+    let list = list.replace(" and ", ", ");
+    let number = |text: &str| text.parse::<usize>().unwrap();
+    let range = |range: &str| match range.split_once(" to ") {
+        Some((first, last)) => number(first)..=number(last),
+        None => number(range)..=number(range),
+    };
+    list.split(", ").flat_map(range).collect()
 }
 
 /// MJ of a place in the page's unit, which is 3 for GJ and 0 for MJ.
@@ -197,10 +227,11 @@ fn unit_places(page: &Element) -> usize {
     }
 }
 
-/// Each step's row: quantity, status, changes and payments; a bar for each change, hatched exactly on the steps that aren't paid.
+/// Each step's row: quantity, status, changes and payments; a bar for each change, hatched exactly in the schedules in which the step isn't paid.
 #[test]
 fn rises_and_falls() {
     let mut classes: Vec<String> = Vec::new();
+    let mut partly_paid = 0;
     for day in days(25) {
         let page = read(&drawn(&day, 0));
         let places = unit_places(&page);
@@ -227,11 +258,17 @@ fn rises_and_falls() {
                 let (from, to) = cells[1].split_once(" to ").unwrap();
                 assert_eq!(units(from, places), i64::from(step.upper - step.width));
                 assert_eq!(units(to, places), i64::from(step.upper));
-                let hatch = expected_hatch(&day, line, step);
-                assert_eq!(
-                    cells[2],
-                    hatch.map_or("paid".into(), |hatch| hatch.replace('-', " "))
-                );
+                let hatches: [_; SCHEDULES] =
+                    std::array::from_fn(|s| expected_hatch(&day, line, step, s));
+                let paid: Vec<usize> = (1..=SCHEDULES)
+                    .filter(|s| hatches[s - 1].is_none())
+                    .collect();
+                assert_eq!(paid_schedules(&cells[2]), paid);
+                if paid.is_empty() {
+                    let hedged = hatches.contains(&Some("hedged"));
+                    assert_eq!(cells[2], if hedged { "hedged" } else { "not accredited" });
+                }
+                partly_paid += usize::from(cells[2].starts_with("paid in "));
                 assert_eq!(cells.len(), 3 + 2 * SCHEDULES);
                 for s in 0..SCHEDULES {
                     let (cell, paid) = (&row.children[3 + 2 * s], &cells[4 + 2 * s]);
@@ -249,7 +286,7 @@ fn rises_and_falls() {
                     assert!(text.starts_with(if change > 0 { '+' } else { '-' }));
                     assert_eq!((units(text, places), money(paid)), (change, step.finals[s]));
                     let [bar] = bars[..] else { panic!("one bar") };
-                    let class = match (hatch, step.finals[s]) {
+                    let class = match (hatches[s], step.finals[s]) {
                         (Some(hatch), _) => hatch,
                         (None, 0) => "free",
                         (None, amount) if amount > 0 => "rise",
@@ -267,7 +304,7 @@ fn rises_and_falls() {
                 }
             }
             let below = table.rows("tfoot");
-            for (k, name) in ["Paid", "Taken back", "Payment of the line"]
+            for (k, name) in ["Paid", "Charged", "Payment of the line"]
                 .iter()
                 .enumerate()
             {
@@ -279,6 +316,7 @@ fn rises_and_falls() {
             }
         }
     }
+    assert!(partly_paid > 100, "{partly_paid}");
     for class in ["rise", "fall", "free", "hedged", "not-accredited"] {
         assert!(
             classes.iter().filter(|own| *own == class).count() > 50,
@@ -336,7 +374,7 @@ impl PriceAxis {
     }
 }
 
-/// In each schedule's plot: step prices, market price, cap where it applies, hatched exactly the steps that aren't paid, and what is constrained on.
+/// In each schedule's plot: step prices, market price, cap where it applies, hatched exactly the steps that aren't paid in it, and what is constrained on.
 #[test]
 fn price_plots() {
     let (mut hatched, mut filled, mut outlined, mut capped, mut broken, mut cut_down) =
@@ -403,7 +441,7 @@ fn price_plots() {
                 }
                 let unpaid: Vec<_> = steps
                     .iter()
-                    .filter_map(|step| Some((expected_hatch(&day, line, step)?, step.upper)))
+                    .filter_map(|step| Some((expected_hatch(&day, line, step, s)?, step.upper)))
                     .collect();
                 let areas = plot.named("rect");
                 match unpaid.last() {
@@ -424,7 +462,7 @@ fn price_plots() {
                         0 => step.price[s] > market,
                         _ => step.price[s] < market,
                     };
-                    match beyond && expected_hatch(&day, line, step).is_none() {
+                    match beyond && expected_hatch(&day, line, step, s).is_none() {
                         true => on.push(step),
                         false => free.push(step),
                     }
@@ -452,6 +490,72 @@ fn price_plots() {
     let counts = [hatched, filled, outlined, capped, cut_down];
     assert!(counts.iter().all(|&count| count > 100), "{counts:?}");
     assert_eq!(broken, 2 * SCHEDULES);
+}
+
+/// K10's rise in schedule 2 and fall in schedule 4, and what is said of the line, by accreditation.
+#[test]
+fn accreditation() {
+    let cases = [
+        (
+            0,
+            "Not accredited, so no step is paid.",
+            "not accredited",
+            ["not-accredited"; 2],
+        ),
+        (1, "Accredited.", "paid", ["rise", "fall"]),
+        (
+            32,
+            "Accredited in no schedule, so no step is paid.",
+            "not accredited",
+            ["not-accredited"; 2],
+        ),
+        (
+            34,
+            "Accredited in schedule 2, so steps are paid only there.",
+            "paid in 2",
+            ["rise", "not-accredited"],
+        ),
+        (
+            61,
+            "Accredited in schedules 1 and 3 to 5, so steps are paid only there.",
+            "paid in 1 and 3 to 5",
+            ["not-accredited", "fall"],
+        ),
+        (
+            63,
+            "Accredited in schedules 1 to 5.",
+            "paid",
+            ["rise", "fall"],
+        ),
+    ];
+    for (word, words, status, classes) in cases {
+        let page = read(&drawn(&k10_accredited(word), 0));
+        let line = page.by_id("line-0");
+        assert_eq!(
+            line.named("p")[0].text,
+            format!("{words} No hedge. 2 steps.")
+        );
+        let body = line.of_class("changes")[0].named("tbody")[0];
+        let bars: Vec<&str> = body
+            .named("path")
+            .iter()
+            .map(|bar| bar.attribute("class"))
+            .collect();
+        assert_eq!(bars, classes, "{word}");
+        assert_eq!(body.children[1].children[2].text, status);
+        // Behind each plot, the whole of it where the line isn't accredited.
+        for (s, plot) in line.named("g").iter().enumerate() {
+            let areas: Vec<&str> = plot
+                .named("rect")
+                .iter()
+                .map(|one| one.attribute("class"))
+                .collect();
+            match accredited_schedules(word).contains(&(s + 1)) {
+                true => assert!(areas.is_empty(), "{word}"),
+                false => assert_eq!(areas, ["not-accredited"], "{word}"),
+            }
+        }
+    }
 }
 
 /// Well-formed, with nothing from outside and no script; ids are there once, and what refers to them finds them.
@@ -599,7 +703,7 @@ fn far_price() {
 fn only_what_was_settled() {
     let day = example("winter");
     type Change = fn(&mut Figures);
-    let changes: [(&str, Change); 6] = [
+    let changes: [(&str, Change); 7] = [
         ("line 1, steps in schedule 2: $50,400.0000001 in sum, and the book has $50,400.0000000", |day| {
             let step = day.lines[1].steps.iter_mut().find(|step| step.finals[1] > 0);
             step.unwrap().finals[1] += 1;
@@ -607,6 +711,9 @@ fn only_what_was_settled() {
         ("lines in schedule 4: $107,820.0000001 in sum, and the book has $107,820.0000000", |day| day.lines[3].entry.payments[3] += 1),
         ("line 3, step 0, schedule 4: $0.0000001 for a change of 1500000 MJ on a step that is not paid", |day| day.lines[3].steps[0].finals[3] += 1),
         ("line 6, step 1, schedule 3: $0.0000001 for a change of 0 MJ on a step that is paid", |day| day.lines[6].steps[1].finals[2] += 1),
+        ("line 1, step 2, schedule 2: $50,400.0000000 for a change of 14000000 MJ on a step that is not paid", |day| {
+            day.lines[1].accreditation = Accreditation::In([true, false, true, true, true]);
+        }),
         ("line 0, ends: the views' aren't the cutter's", |day| day.lines[0].steps[0].end += 1),
         ("line 4, step 0, schedule 1: the view's price is $34.0001, the cutter's $34.0000", |day| day.lines[4].steps[0].price[0] += 1),
     ];

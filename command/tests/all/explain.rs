@@ -1,13 +1,13 @@
 //! Explanations.
 
-use crate::{run, stored};
+use crate::{accredited_schedules, k10_accredited, run, stored, with_sets};
 use mewikofu_command::explain::{Explained, Reason, Rule};
 use mewikofu_command::figures::Figures;
-use reference::generate::{small_day, valid_day};
-use reference::layout::put_word;
+use reference::generate::{small_day, small_set_day, valid_day};
+use reference::layout::{put_word, word};
 use reference::view::view;
 
-/// Days with clawback on and off.
+/// Days with clawback on and off, and with accreditation by line and by schedule.
 fn days() -> impl Iterator<Item = Vec<u8>> {
     (0..crate::days(250)).map(|seed| {
         let mut day = if seed % 5 == 0 {
@@ -16,7 +16,10 @@ fn days() -> impl Iterator<Item = Vec<u8>> {
             small_day(seed)
         };
         put_word(&mut day, 15, u32::from(seed % 4 != 0));
-        day
+        match seed % 3 {
+            0 => with_sets(day, seed),
+            _ => day,
+        }
     })
 }
 
@@ -159,7 +162,7 @@ fn k10() {
         "of the line's operating total 2, pricing total 1 and effective actual 1.5, this step has O = 1, E = 0 and A = 0.5.",
         "In schedule 1 it was 0, so it rises by 1.",
         "1 x $2.0000 = $2.00.",
-        "Schedule 4: the line pays back $1.00.",
+        "Schedule 4: the line is charged $1.00.",
         "In schedule 3 it was 1, so it falls by 0.5, which is matched with 0.5 of the rise in schedule 2.",
         "-0.5 x $2.0000 = -$1.00. Final payment: clawback is off, so it is the initial payment: -$1.00.",
         "Over the five schedules it is paid $1.00: $0.00 + $2.00 + $0.00 - $1.00 + $0.00 = $1.00.",
@@ -167,6 +170,169 @@ fn k10() {
     ] {
         assert!(text.contains(words), "{words}\n{text}");
     }
+}
+
+/// The explanation with single spaces.
+fn told(arguments: &[&str], day: &[u8]) -> String {
+    let text = run(&[&["explain"], arguments].concat(), day).text();
+    text.split_whitespace().collect::<Vec<_>>().join(" ")
+}
+
+#[test]
+fn accreditation_of_a_line() {
+    let cases = [
+        (0, "not accredited"),
+        (1, "accredited"),
+        (32, "accredited in no schedule"),
+        (36, "accredited in schedule 3"),
+        (35, "accredited in schedules 1 and 2"),
+        (53, "accredited in schedules 1, 3 and 5"),
+        (61, "accredited in schedules 1 and 3 to 5"),
+        (63, "accredited in schedules 1 to 5"),
+    ];
+    for (word, words) in cases {
+        let text = told(&["--line", "0"], &k10_accredited(word));
+        let line =
+            format!("Line 0: participant 7, point 3, injection, {words}, no hedge, 2 steps.");
+        assert!(text.contains(&line), "{line}\n{text}");
+    }
+}
+
+/// K10's step 1 rises in schedule 2 and falls in schedule 4. Accredited in all but the second, it is paid nothing for the rise, and the fall is charged.
+#[test]
+fn accreditation_by_schedule() {
+    let day = k10_accredited(61);
+    let text = told(&[], &day);
+    for words in [
+        "Over the five schedules it is charged $1.00: $0.00 + $0.00 + $0.00 - $1.00 + $0.00 = -$1.00.",
+        "Schedule 2: the line is paid nothing. Steps 0 and 1: the line isn't accredited in schedule 2, so no step of it is paid.",
+        "Schedule 4: the line is charged $1.00.",
+        "Initial payment: the line is accredited in schedule 4 and the step isn't hedged, so it is the change times the rate: -0.5 x $2.0000 = -$1.00. \
+         The line isn't accredited in schedule 2, so the rise there wasn't paid; the fall is charged all the same.",
+        "Schedule 5: the line is paid nothing. Steps 0 and 1: the quantity constrained on doesn't change, so there is nothing to pay.",
+    ] {
+        assert!(text.contains(words), "{words}\n{text}");
+    }
+    let step = told(&["--line", "0", "--step", "1", "--schedule", "2"], &day);
+    let words = "Step 1, from 1 to 3, is paid nothing in schedule 2.";
+    assert!(step.contains(words), "{step}");
+    let words =
+        "so it rises by 1. Payment: the line isn't accredited in schedule 2, so nothing is paid.";
+    assert!(step.ends_with(words), "{step}");
+    // The other way round: the rise is paid, and nothing is charged.
+    let text = told(&[], &k10_accredited(34));
+    for words in [
+        "Over the five schedules it is paid $2.00: $0.00 + $2.00 + $0.00 + $0.00 + $0.00 = $2.00.",
+        "Initial payment: the line is accredited in schedule 2 and the step isn't hedged, so it is the change times the rate: 1 x $2.0000 = $2.00. Final",
+        "Schedule 4: the line is paid nothing. Steps 0 and 1: the line isn't accredited in schedule 4, so no step of it is paid.",
+    ] {
+        assert!(text.contains(words), "{words}\n{text}");
+    }
+    let table = run(&["explain", "--csv", "--units"], &day).text();
+    let rules: Vec<&str> = table
+        .lines()
+        .skip(6)
+        .map(|row| row.rsplit(',').next().unwrap())
+        .collect();
+    let off = "initial: clawback off";
+    assert_eq!(
+        rules,
+        ["initial: schedule 1", "not accredited", off, off, off]
+    );
+}
+
+/// A fall names all its matched rises in schedules in which the line isn't accredited, and it is said of no other fall, nor where the
+/// initial payment is below 0 and the final one is 0.
+#[test]
+fn falls_with_unpaid_rises() {
+    let mut counts = [0; 4];
+    let final_of_0 = small_set_day(11);
+    for day in days().step_by(3).take(60).chain([final_of_0]) {
+        let figures = Figures::new(&day).unwrap();
+        let explained = Explained::new(&day, &figures).unwrap();
+        for reason in explained.reasons.iter().filter(|reason| reason.fall > 0) {
+            let word = word(&day[64 + 660 * reason.line..], 3);
+            let accredited = accredited_schedules(word);
+            let rises = reason.matches.iter().rev().map(|one| one.rise + 1);
+            let unpaid = rises.filter(|rise| !accredited.contains(rise));
+            let unpaid: Vec<String> = unpaid.map(|rise| rise.to_string()).collect();
+            let kind = match (reason.view.initial[reason.s] < 0, reason.paid < 0) {
+                (_, true) => unpaid.len().min(2),
+                (true, false) if !unpaid.is_empty() => 3,
+                _ => 0,
+            };
+            counts[kind] += 1;
+            if counts[kind] > 8 {
+                continue;
+            }
+            let [line, step, schedule] =
+                [reason.line, reason.step, reason.s + 1].map(|n| n.to_string());
+            let text = told(
+                &["--line", &line, "--step", &step, "--schedule", &schedule],
+                &day,
+            );
+            let words = match kind {
+                0 | 3 => {
+                    assert!(!text.contains("is charged all the same"), "{text}");
+                    continue;
+                }
+                1 => format!(
+                    "in schedule {}, so the rise there wasn't paid; the fall is",
+                    unpaid[0]
+                ),
+                2 if unpaid.len() == 2 => format!(
+                    "in schedules {} and {}, so the rises there weren't paid; the fall is",
+                    unpaid[0], unpaid[1]
+                ),
+                _ => format!("in schedules {}", unpaid[0]),
+            };
+            assert!(
+                text.contains(&format!(". The line isn't accredited {words}")),
+                "{words}\n{text}"
+            );
+        }
+    }
+    assert!(counts.iter().all(|&count| count > 0), "{counts:?}");
+}
+
+/// A charge for a rise that wasn't paid isn't said to be paid back; one whose final payment is 0 isn't said to be charged.
+#[test]
+fn charges_for_unpaid_rises() {
+    let text = told(&["--line", "3"], &stored("examples/accreditation.day"));
+    for words in [
+        "Over the five schedules it is charged $200.00: ",
+        "Schedule 2: the line is charged $200.00. Step 0, from 0 to 100, is charged $200.00 in schedule 2.",
+        "so the rise there wasn't paid; the fall is charged all the same.",
+    ] {
+        assert!(text.contains(words), "{words}\n{text}");
+    }
+    let place = ["--line", "0", "--step", "3", "--schedule", "4"];
+    let text = told(&place, &small_set_day(11));
+    assert!(text.contains(" is paid nothing in schedule 4."), "{text}");
+    assert!(
+        text.contains(" Initial payment: ") && text.contains(" = -$"),
+        "{text}"
+    );
+    assert!(!text.contains("charged all the same"), "{text}");
+}
+
+/// The worked day of docs/RULES.md, with line 12 once more as participant 14, accredited in all schedules but the fourth: its rise of 90 in schedule 4 isn't
+/// paid and isn't in B, so line 11's share is what it was. In schedule 5 its rise of 10 is paid $5.
+#[test]
+fn pool_of_a_set() {
+    let mut day = stored("examples/rules.day");
+    day.extend_from_within(64 + 660..64 + 2 * 660);
+    put_word(&mut day, 0, 4);
+    put_word(&mut day, 3, 64 + 4 * 660);
+    put_word(&mut day[64 + 3 * 660..], 0, 14);
+    put_word(&mut day[64 + 3 * 660..], 3, 32 + 0b10111);
+    let share = told(&["--line", "0", "--schedule", "4"], &day);
+    let words = "The steps of all injections that are paid in schedule 4 rise there by 90 and fall by 70; the greater is B = 90.";
+    assert!(share.contains(words), "{share}");
+    assert!(share.contains("so it stands: -$128.3333333."), "{share}");
+    let payments = |k: usize| Figures::new(&day).unwrap().lines[k].entry.payments;
+    assert_eq!(payments(0), [0, 2_900_000_000, 0, -1_283_333_333, 0]);
+    assert_eq!(payments(3), [0, 0, 0, 0, 50_000_000]);
 }
 
 /// One step in one schedule is explained also where nothing is paid.

@@ -14,6 +14,7 @@ mod status;
 mod tables;
 mod texts;
 
+use reference::layout::put_word;
 use std::io::Write;
 use std::path::Path;
 use std::process::{Command, Stdio};
@@ -83,6 +84,34 @@ fn stored(path: &str) -> Vec<u8> {
 
 fn example_text() -> String {
     String::from_utf8(stored("command/example.day.txt")).unwrap()
+}
+
+/// K10's day with an accreditation word.
+fn k10_accredited(word: u32) -> Vec<u8> {
+    let mut day = stored("examples/k10.day");
+    put_word(&mut day[64..], 3, word);
+    day
+}
+
+/// Accreditation words up to the first that is too large, larger ones with the bits of a proper one, and the largest.
+fn accreditation_words() -> impl Iterator<Item = u32> {
+    let large = (6..32).flat_map(|bit| [1 << bit, (1 << bit) + 1, (1 << bit) + 61]);
+    (0..=64).chain(large).chain([u32::MAX])
+}
+
+/// The schedules, from 1, in which a proper word holds.
+fn accredited_schedules(word: u32) -> Vec<usize> {
+    let holds = |s: &usize| word == 1 || (word >= 32 && word >> (s - 1) & 1 == 1);
+    (1..=5).filter(holds).collect()
+}
+
+/// The day with sets of schedules as accreditation, all 32 of them by and by; every eighth line keeps its own.
+fn with_sets(mut day: Vec<u8>, seed: u64) -> Vec<u8> {
+    let lines = day[64..].chunks_exact_mut(660).enumerate();
+    for (k, line) in lines.filter(|(k, _)| k % 8 != 7) {
+        put_word(line, 3, 32 + (7 * seed as u32 + 11 * k as u32) % 32);
+    }
+    day
 }
 
 /// How many generated days a test takes: so many, or those that MEWIKOFU_DAYS in the environment says.

@@ -240,7 +240,12 @@ fn wrong_rows() {
         (
             12,
             "bid 2..1 = 1@2",
-            "'2..1' is no schedule; they are 1 to 5, or a range such as 2..4",
+            "'2..1' falls; a range of schedules rises, such as 1..2",
+        ),
+        (
+            12,
+            "bid +1 = 1@2",
+            "'+1' is no schedule; they are 1 to 5, or a range such as 2..4",
         ),
         (
             12,
@@ -303,6 +308,91 @@ fn wrong_rows() {
             format!("line {line}: {message}\n"),
             "{row}"
         );
+    }
+}
+
+/// Words of an accreditation written so.
+#[test]
+fn accreditation() {
+    let cases = [
+        ("no", 0),
+        ("0", 0),
+        ("yes", 1),
+        ("1", 1),
+        ("3", 3),
+        ("61", 61),
+        ("64", 64),
+        ("4_294_967_295", u32::MAX),
+        ("in none", 32),
+        ("in 1", 33),
+        ("in 3", 36),
+        ("in 5", 48),
+        ("in 1,2", 35),
+        ("in 1..2", 35),
+        ("1,2", 35),
+        ("1..2", 35),
+        ("2,1", 35),
+        ("4..4", 40),
+        ("in 1,3..5", 61),
+        ("1,3..5", 61),
+        ("3..5,1", 61),
+        ("in 1,3,4,5", 61),
+        ("in\t1 , 3 .. 5", 61),
+        ("1..5", 63),
+        ("in 1..5", 63),
+    ];
+    for (text, word) in cases {
+        let row = format!("accredited = {text}");
+        let day = make(TEXT.replace("accredited = yes", &row).as_bytes()).unwrap();
+        assert_eq!(words(&day)[16 + 3], word, "{text}");
+    }
+}
+
+#[test]
+fn wrong_accreditation() {
+    let no_schedule = "is no schedule; they are 1 to 5, or a range such as 2..4";
+    let empty_item = "has an empty item, where a schedule or a range such as 2..4 must stand";
+    let no_set = "is not yes, no, a number or a set of schedules, such as 'in 1,3..5'";
+    let cases = [
+        ("", "'accredited' needs 1 value, not 0".to_string()),
+        (
+            "in",
+            "'in' needs schedules, such as 'in 1,3..5'; the empty set is 'in none'".to_string(),
+        ),
+        ("in 0", format!("'0' {no_schedule}")),
+        ("in 6", format!("'6' {no_schedule}")),
+        ("1,6", format!("'6' {no_schedule}")),
+        ("0..2", format!("'0..2' {no_schedule}")),
+        ("in 4..6", format!("'4..6' {no_schedule}")),
+        ("in 1 3", format!("'1 3' {no_schedule}")),
+        ("in 1,", format!("'1,' {empty_item}")),
+        ("in ,1", format!("',1' {empty_item}")),
+        ("1, ,3", format!("'1, ,3' {empty_item}")),
+        (",", format!("',' {empty_item}")),
+        ("in 1,..3", format!("'..3' {no_schedule}")),
+        ("in 1,none", format!("'none' {no_schedule}")),
+        ("in yes", format!("'yes' {no_schedule}")),
+        ("-1,2", format!("'-1' {no_schedule}")),
+        ("1...3", format!("'1...3' {no_schedule}")),
+        (
+            "in 1,5..3",
+            "'5..3' falls; a range of schedules rises, such as 3..5".to_string(),
+        ),
+        ("in 3,3", "schedule 3 is named twice".to_string()),
+        ("2..4,1,3", "schedule 3 is named twice".to_string()),
+        ("none", format!("'none' {no_set}")),
+        ("maybe", format!("'maybe' {no_set}")),
+        ("yes no", format!("'yes no' {no_set}")),
+        ("1 3", format!("'1 3' {no_set}")),
+        ("-1", format!("'-1' {no_set}")),
+        (
+            "4294967296",
+            "4294967296 is too large for a word (at most 4294967295)".to_string(),
+        ),
+    ];
+    for (text, message) in cases {
+        let row = format!("accredited = {text}");
+        assert_eq!(with_row(10, &row), format!("line 10: {message}\n"), "{row}");
     }
 }
 

@@ -1,6 +1,6 @@
 //! From day files to text and back.
 
-use crate::{example_text, run, stored};
+use crate::{accreditation_words, accredited_schedules, example_text, k10_accredited, run, stored};
 use mewikofu_command::make::make;
 use mewikofu_command::output::Unit;
 use mewikofu_command::show::show;
@@ -59,6 +59,44 @@ fn single_words() {
             round_trip(&day);
         }
     }
+}
+
+/// Every accreditation word is shown and made again; a set names its schedules, neighbours of three and more as a range.
+#[test]
+fn accreditation() {
+    for word in accreditation_words() {
+        let day = k10_accredited(word);
+        round_trip(&day);
+        let text = show(&day, Unit::Dollars).unwrap();
+        let row = text.lines().find(|row| row.starts_with("accredited = "));
+        let value = row.unwrap().strip_prefix("accredited = ").unwrap();
+        let schedules = accredited_schedules(word);
+        let expected = match word {
+            0 => "no".to_string(),
+            1 => "yes".to_string(),
+            32 => "in none".to_string(),
+            33..=63 => {
+                let list: Vec<String> = schedules.iter().map(usize::to_string).collect();
+                let list = format!("in {}", list.join(","));
+                // The longest first.
+                let ranges = ["1,2,3,4,5", "1,2,3,4", "2,3,4,5", "1,2,3", "2,3,4", "3,4,5"];
+                ranges.iter().fold(list, |list, range| {
+                    let short = format!("{}..{}", &range[..1], &range[range.len() - 1..]);
+                    list.replace(range, &short)
+                })
+            }
+            other => other.to_string(),
+        };
+        assert_eq!(value, expected, "{word}");
+    }
+    let shown = |word| {
+        let text = show(&k10_accredited(word), Unit::Units).unwrap();
+        let row = text.lines().find(|row| row.starts_with("accredited"));
+        row.unwrap().to_string()
+    };
+    assert_eq!(shown(35), "accredited = in 1,2");
+    assert_eq!(shown(61), "accredited = in 1,3..5");
+    assert_eq!(shown(63), "accredited = in 1..5");
 }
 
 /// K10's day as shown has the rows of the example without its comments, one schedule a row.

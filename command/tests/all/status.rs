@@ -1,5 +1,6 @@
 //! Exit statuses: 0 accepted, 1 refused, 2 usage, input or output error.
 
+use crate::draw::EXAMPLES;
 use crate::{program, run, run_with, stored};
 use std::fs::OpenOptions;
 use std::process::{Command, Stdio};
@@ -26,12 +27,8 @@ fn shell(script: &str) -> (i32, String) {
 
 #[test]
 fn accepted_and_refused() {
-    for (day, status) in [
-        ("k10", 0),
-        ("both-sides", 0),
-        ("withdrawals", 0),
-        ("refused", 1),
-    ] {
+    let accepted = EXAMPLES.map(|day| (day, 0));
+    for (day, status) in accepted.into_iter().chain([("refused", 1)]) {
         let day = stored(&format!("examples/{day}.day"));
         for command in ["settle", "steps", "check"] {
             for format in [&[][..], &["--csv"], &["--json"]] {

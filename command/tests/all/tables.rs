@@ -1,6 +1,6 @@
 //! CSV and JSON, there and back.
 
-use crate::{run, stored};
+use crate::{accreditation_words, accredited_schedules, k10_accredited, run, stored, with_sets};
 use reference::generate::{damaged_day, valid_day};
 use reference::layout::{book_length, signed, word, MOST_LINES};
 use reference::settle::settle;
@@ -26,7 +26,10 @@ fn json(text: &[u8]) -> Value {
 #[test]
 fn days_there_and_back() {
     for seed in 0..60 {
-        let day = valid_day(seed);
+        let day = match seed % 3 {
+            0 => with_sets(valid_day(seed), seed),
+            _ => valid_day(seed),
+        };
         for unit in [&[][..], &["--units"]] {
             let table = run(&[&["show", "--csv"], unit].concat(), &day).output();
             assert!(run(&["make", "--csv"], &table).output() == day, "{seed}");
@@ -34,6 +37,37 @@ fn days_there_and_back() {
         let text = run(&["show", "--json"], &day).output();
         assert!(run(&["make", "--json"], &text).output() == day, "{seed}");
     }
+}
+
+/// Every accreditation word goes there and back. A set is text in a table, and an array of its schedules in JSON.
+#[test]
+fn accreditation() {
+    for word in accreditation_words() {
+        let day = k10_accredited(word);
+        let proper = matches!(word, 0 | 1 | 32..=63);
+        let made = |format: &str, shown: &[u8]| {
+            let run = run(&["make", format], shown);
+            assert_eq!(run.status, i32::from(!proper), "{word}: {}", run.message);
+            assert!(run.out == day, "{word}");
+        };
+        let table = run(&["show", "--csv"], &day).output();
+        made("--csv", &table);
+        let (names, rows) = rows(&table);
+        let text = run(&["show"], &day).text();
+        let row = format!("accredited = {}\n", cell(&names, &rows[0], "accredited"));
+        assert!(text.contains(&row), "{row}");
+        let shown = run(&["show", "--json"], &day).output();
+        made("--json", &shown);
+        let due = match word {
+            0 => false.into(),
+            1 => true.into(),
+            32..=63 => accredited_schedules(word).into(),
+            other => Value::from(other),
+        };
+        assert_eq!(json(&shown)["lines"][0]["accredited"], due);
+    }
+    let table = String::from_utf8(run(&["show", "--csv"], &k10_accredited(61)).output()).unwrap();
+    assert!(table.contains(",INJ,\"in 1,3..5\",0,"), "{table}");
 }
 
 /// A refused day is either said so that the same bytes are made of it, or not said.
@@ -89,6 +123,18 @@ fn wrong_tables() {
     assert_eq!(
         with(",INJ,", ",in,"),
         "row 2, side: 'in' is not INJ, WDR or a number\n"
+    );
+    assert_eq!(
+        with(",yes,", ",\"in 1,6\","),
+        "row 2, accredited: '6' is no schedule; they are 1 to 5, or a range such as 2..4\n"
+    );
+    assert_eq!(
+        with(",yes,", ",\"3,1..4\","),
+        "row 2, accredited: schedule 3 is named twice\n"
+    );
+    assert_eq!(
+        with(",yes,", ",,"),
+        "row 2, accredited: '' is not yes, no, a number or a set of schedules, such as 'in 1,3..5'\n"
     );
     assert_eq!(with(",3.0000,", ",3.00001,"), "row 2, market_price_1_dollars: $3.00001 has more than four decimals; a price unit is $0.0001\n");
     assert_eq!(
@@ -159,6 +205,41 @@ fn wrong_json() {
     assert_eq!(
         with(&|day| day["lines"][0]["side"] = "in".into()),
         "lines[0].side: 'in' is not INJ, WDR or a number\n"
+    );
+    let accredited = |value: Value| with(&|day| day["lines"][0]["accredited"] = value.clone());
+    for wrong in [
+        "0",
+        "6",
+        "-1",
+        "1.5",
+        "\"1\"",
+        "true",
+        "[1]",
+        "18446744073709551616",
+    ] {
+        let value = json(format!("[2,{wrong}]").as_bytes());
+        assert_eq!(
+            accredited(value.clone()),
+            format!(
+                "lines[0].accredited[1]: {} is no schedule; they are 1 to 5\n",
+                value[1]
+            )
+        );
+    }
+    assert_eq!(
+        accredited(serde_json::json!([3, 1, 3])),
+        "lines[0].accredited: schedule 3 is named twice\n"
+    );
+    for wrong in ["\"yes\"", "\"in 1,3..5\"", "null", "-1", "4294967296"] {
+        let taken = "true, false, an array of schedules or a whole number of 32 bits";
+        assert_eq!(
+            accredited(json(wrong.as_bytes())),
+            format!("lines[0].accredited: {wrong} isn't {taken}\n")
+        );
+    }
+    assert_eq!(
+        with(&|day| day["market"]["clawback"] = serde_json::json!([1])),
+        "market.clawback: [1] isn't a whole number of 32 bits\n"
     );
     assert_eq!(
         with(&|day| day["lines"][0]["pricing"][1] = day["lines"][0]["pricing"][0].clone()),

@@ -1,5 +1,6 @@
 //! What `settle`, `steps` and `cut` print, byte for byte.
 
+use crate::draw::EXAMPLES;
 use crate::{run, stored};
 use mewikofu_command::{cut, figures::Figures, settle, steps};
 use reference::generate::{damaged_day, damaged_line, line, small_day, valid_day};
@@ -11,7 +12,7 @@ fn kept(path: &str) -> String {
 
 #[test]
 fn kept_reports() {
-    for name in ["k10", "both-sides", "withdrawals", "refused"] {
+    for name in EXAMPLES.into_iter().chain(["refused"]) {
         let run = run(&["settle"], &stored(&format!("examples/{name}.day")));
         assert_eq!(
             String::from_utf8(run.out).unwrap(),

@@ -1,4 +1,4 @@
--- The certificate applied: to K10's day and to a worked day, which are accepted, and to a law on the cutter that a buyer would ask for.
+-- The certificate applied: to K10's day and to worked days, which are accepted, and to a law on the cutter that a buyer would ask for.
 use Prim.Native.Nat.{ℕ, _≤_, _<_}
 use mathlib.Core.Path.{_≡_, refl, _∙_}
 use mathlib.Core.List.{List}
@@ -15,7 +15,9 @@ use Rattle.rules.specs.Book.{bookAfter}
 use Rattle.rules.specs.Worked.Opened.{opened}
 use Rattle.rules.specs.Worked.Figures.{k10Day}
 use Rattle.rules.specs.Worked.Base2.{base2Words, base2Day}
+use Rattle.rules.specs.Worked.Reschedule.{rescheduleWords, rescheduleDay}
 use Rattle.rules.specs.Worked.Lemma.{base-2-accepted}
+use Rattle.rules.specs.Worked.Later.{reschedule-accepted}
 use Rattle.laws.specs.Folds.{sum-same}
 use Rattle.cutter.specs.Certificate.{widthAt}
 use Rattle.certificate.specs.Certificate.{Certified}
@@ -38,6 +40,13 @@ unfolding base2Words base2Day
 base-2-certified b l =
     certified base2Day b (bookAfter base2Day b) (viewAnswer base2Day) (λ k. cutAnswer (lineAt base2Day k)) base-2-accepted l refl
     (λ k j. refl) (λ k. refl)
+
+-- And so is one with points that are accredited for a part of the day (document 02, F-7; `reschedule` in rules)
+pub reschedule-certified : (b : List ℕ) → 320 ≤ length b → Certified rescheduleDay (bookAfter rescheduleDay b) (viewAnswer rescheduleDay) (λ k. cutAnswer (lineAt rescheduleDay k))
+unfolding rescheduleWords rescheduleDay
+reschedule-certified b l =
+    certified rescheduleDay b (bookAfter rescheduleDay b) (viewAnswer rescheduleDay) (λ k. cutAnswer (lineAt rescheduleDay k))
+    reschedule-accepted l refl (λ k j. refl) (λ k. refl)
 
 -- the cutter alone covers a line: its own widths add up to the greatest break
 pub cutter-covers : (d book : List ℕ) (view : ℕ → ℕ → View) (cut : ℕ → Cut) → Certified d book view cut → (k : ℕ) → k < lineCount d → sumTo (cut k .count) (widthAt (cut k)) ≡ greatestBreak (lineAt d k)

@@ -37,4 +37,4 @@ line-pool d m i w p k l v e sd h q g =
     let n : sd ≡ side (lineAt d k) = h ∙ ap side e in
     let s : q ≡ poolIn (side (lineAt d k)) i w = g ∙ ap (λ (x : ℕ). poolIn x i w) n in
     subst (PoolFor (settledDay d) (side (lineAt d k))) (sym s)
-    (pool-by (settledDay d) (side (lineAt d k)) i w (accepted-line-at d (p .accepted) k l .side-most) (p .injection) (p .withdrawal))
+    (pool-by (settledDay d) (side (lineAt d k)) i w (accepted-line-at d (p .accepted) k l .head .side-most) (p .injection) (p .withdrawal))

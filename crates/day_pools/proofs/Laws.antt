@@ -4,7 +4,7 @@ use native.Mathlib.Omega.{arith}
 use native.Mathlib.Numerals.{add-one}
 use mathlib.Core.Path.{_≡_, sym, _∙_, ap, subst}
 use mathlib.Core.List.{List}
-use lib.ListN.{length}
+use lib.ListN.{length, getD}
 use Rattle.rules.specs.Layout.{lineCount, lineAt, side, operatingTable, clawback}
 use lib.Dec.{eqb}
 use mathlib.Core.Bool.{true, false}
@@ -28,6 +28,7 @@ use Rattle.step_pool.specs.declared.pool_amounts.SidePool.{SidePool}
 use Rattle.step_inputs.specs.declared.inputs.Market.{Market}
 use Rattle.step_inputs.specs.declared.inputs.LineTotals.{LineTotals}
 use Rattle.step_inputs.specs.Inputs.{marketOf, totalsOf, StepReady}
+use Rattle.step_inputs.specs.Steps.{end-is}
 use Rattle.step_inputs.specs.Paid.{DaySized, settled-sized}
 use Rattle.day_pools.specs.Sums.{poolTo, pool-more, moneyTo, money-more}
 use Rattle.day_pools.specs.Sides.{stepPoolAt, linePool, sidePart, sidePool}
@@ -88,32 +89,34 @@ module _ (d : List ℕ) (a : AcceptedDay d) (k : ℕ) (l : k < lineCount d) wher
       step-sized x xe = subst Sized (sym xe) (settled-sized d a .steps k l j below)
 
       -- the lower end of the next step
-      pub next-lower : (x : Step) → x ≡ stepOf d k j → x .upper ≡ lowerEnd (lineAt d k) (j + 1)
-      unfolding stepOf lowerEnd upperEnd
-      next-lower x xe = rw add-one (ap (λ (z : Step). z .upper) xe)
+      pub next-lower : (u : ℕ) → u ≡ getD (c .ends) j 0 → u ≡ lowerEnd (lineAt d k) (j + 1)
+      unfolding lowerEnd upperEnd
+      next-lower u ue =
+          let e = end-is (lineAt d k) (accepted-line-at d a k l) j below in
+          rw add-one (ue ∙ ap (λ (z : Cut). getD (z .ends) j 0) own ∙ e)
 
       -- the pool with this step
-      pub pool-addable : (q : SidePool) (x : Step) → x ≡ stepOf d k j → q ≡ poolTo j (stepPoolAt (settledDay d) k) → Addable q (stepPool x)
+      pub pool-addable : (q : SidePool) → q ≡ poolTo j (stepPoolAt (settledDay d) k) → Addable q (stepPool (stepOf d k j))
       unfolding stepPoolAt
-      pool-addable q x xe qe = rw (qe, xe) (steps-addable (settledDay d) (settled-sized d a) k j l below)
+      pool-addable q qe = rw qe (steps-addable (settledDay d) (settled-sized d a) k j l below)
 
-      pub pool-next : (q r : SidePool) (x : Step) → x ≡ stepOf d k j → q ≡ poolTo j (stepPoolAt (settledDay d) k) → r ≡ poolSum q (stepPool x) → r ≡ poolTo (j + 1) (stepPoolAt (settledDay d) k)
+      pub pool-next : (q r : SidePool) → q ≡ poolTo j (stepPoolAt (settledDay d) k) → r ≡ poolSum q (stepPool (stepOf d k j)) → r ≡ poolTo (j + 1) (stepPoolAt (settledDay d) k)
       unfolding stepPoolAt
-      pool-next q r x xe qe re = re ∙ rw (qe, xe) (sym (pool-more j (stepPoolAt (settledDay d) k)))
+      pool-next q r qe re = re ∙ rw qe (sym (pool-more j (stepPoolAt (settledDay d) k)))
 
       -- the money with this step
       module _ (p : SidePool) (g : PoolFor (settledDay d) (side (lineAt d k)) p) (cl : ℕ) (ce : cl ≡ clawback d) where
         pub step-payable : (x : Step) → x ≡ stepOf d k j → Payable x cl p
         step-payable x xe = rw (xe, ce) (payable (settledDay d) (settled-sized d a) k j l below p g)
 
-        money-there : (x : Step) → x ≡ stepOf d k j → moneyOf (finalOn x cl p) ≡ stepMoney (settledDay d) k j
-        money-there x xe = rw (xe, ce) (step-money-is (settledDay d) k j p g)
+        money-there : moneyOf (finalOn (stepOf d k j) cl p) ≡ stepMoney (settledDay d) k j
+        money-there = rw ce (step-money-is (settledDay d) k j p g)
 
-        pub money-addable : (q : Money) (x : Step) → x ≡ stepOf d k j → q ≡ moneyTo j (stepMoney (settledDay d) k) → MoneyAddable q (moneyOf (finalOn x cl p))
-        money-addable q x xe qe = rw (qe, money-there x xe) (money-adds (settledDay d) (settled-sized d a) k j l below)
+        pub money-addable : (q : Money) → q ≡ moneyTo j (stepMoney (settledDay d) k) → MoneyAddable q (moneyOf (finalOn (stepOf d k j) cl p))
+        money-addable q qe = rw (qe, money-there) (money-adds (settledDay d) (settled-sized d a) k j l below)
 
-        pub money-next : (q r : Money) (x : Step) → x ≡ stepOf d k j → q ≡ moneyTo j (stepMoney (settledDay d) k) → r ≡ moneySum q (moneyOf (finalOn x cl p)) → r ≡ moneyTo (j + 1) (stepMoney (settledDay d) k)
-        money-next q r x xe qe re = re ∙ rw (qe, money-there x xe) (sym (money-more j (stepMoney (settledDay d) k)))
+        pub money-next : (q r : Money) → q ≡ moneyTo j (stepMoney (settledDay d) k) → r ≡ moneySum q (moneyOf (finalOn (stepOf d k j) cl p)) → r ≡ moneyTo (j + 1) (stepMoney (settledDay d) k)
+        money-next q r qe re = re ∙ rw (qe, money-there) (sym (money-more j (stepMoney (settledDay d) k)))
 
 -- a side's part of a line
 pub part-other : (d v : List ℕ) (sd k x : ℕ) (r : SidePool) → v ≡ lineAt d k → x ≡ side v → (x ≡ sd → ⊥) → r ≡ noPool → r ≡ sidePart (settledDay d) sd k

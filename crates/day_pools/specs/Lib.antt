@@ -3,3 +3,4 @@ pub mod Sums
 pub mod Sides
 pub mod Sizes
 pub mod Lines
+pub mod Window

@@ -6,7 +6,7 @@ use mathlib.Core.List.{List}
 use mathlib.Core.Bool.{Bool, true, false, not, _&&_, true≢false}
 use lib.ListN.{length}
 use lib.Dec.{eqb, ltb, leb}
-use borrow.Author.Tests.{ltb-false, leb-false, eqb-true, eqb-false, not-false}
+use borrow.Author.Tests.{ltb-false, lt-ltb, leb-false, eqb-true, eqb-false, not-false}
 use Rattle.rules.specs.Fold.{refuse, first, before}
 use Rattle.rules.specs.Layout.{quantityMost, priceMost, lineCount, fileLength}
 use Rattle.rules.specs.Layout.{marketPrice, capMark, priceCap, clawback, lineAt, side, accreditation, hedge, withdrawal}
@@ -14,7 +14,7 @@ use Rattle.rules.specs.Layout.{bidCount, bidBreak, bidPrice, operatingTable, ac
 use Rattle.rules.specs.Steps.{greatestBreak}
 use Rattle.rules.specs.Quantities.{pricingTotal, tableTotal}
 use Rattle.rules.specs.Refusals.{headerFault, marketPriceFault, markFault, marketFault, breakFault, outOfOrder, orderFault, priceFault, unusedFault, bidFault}
-use Rattle.rules.specs.Refusals.{totalFault, actualFault, lineFaultWith, lineFault, lineFaultAt, sameKey, pairFault, keyFault, dayFault}
+use Rattle.rules.specs.Refusals.{totalFault, actualFault, headFault, lineFaultWith, lineFault, lineFaultAt, sameKey, pairFault, keyFault, dayFault}
 use Rattle.laws.specs.Folds.{refuse-zero, orElse-both, first-at, Both}
 
 -- a test that was not met
@@ -73,10 +73,15 @@ accepted-bid w s e =
       unused-price = λ i h. equal 9 _ 0 (uns i h .right);
     }
 
+-- side and accreditation: refusal 6
+pub record AcceptedHead (w : List ℕ) : Type 0 where
+  pub side-most : side w ≤ 1
+  pub accreditation-most : accreditation w ≤ 63
+  pub accreditation-set : 1 < accreditation w → 32 ≤ accreditation w
+
 -- one line: refusals 6 to 13, with a table of operating quantities
 pub record AcceptedWith (t : List (List ℕ)) (w : List ℕ) : Type 0 where
-  pub side-most : side w ≤ 1
-  pub accreditation-most : accreditation w ≤ 1
+  pub head : AcceptedHead w
   pub bids : (s : ℕ) → s < 5 → AcceptedBid w s
   pub hedge-most : hedge w ≤ greatestBreak w
   pub hedge-withdrawal : withdrawal (side w) ≡ true → hedge w ≡ 0
@@ -101,6 +106,18 @@ and-false : (a b : Bool) → (a && b) ≡ false → a ≡ true → b ≡ false
 and-false true b e h = e
 and-false false b e h = absurd (true≢false (sym h))
 
+accepted-head : (w : List ℕ) → headFault w ≡ 0 → AcceptedHead w
+unfolding headFault
+accepted-head w e =
+    let b1 = orElse-both _ _ e in
+    let b2 = orElse-both _ _ (b1 .right) in
+    let word = accreditation w in
+    record {
+      side-most = at-most 5 1 (side w) (b1 .left);
+      accreditation-most = at-most 5 63 word (b2 .right);
+      accreditation-set = λ h. ltb-false word 32 (and-false _ _ (refuse-zero 5 _ (b2 .left)) (lt-ltb 1 word h));
+    }
+
 pub accepted-with : (t : List (List ℕ)) (w : List ℕ) → lineFaultWith t w ≡ 0 → AcceptedWith t w
 unfolding lineFaultWith
 accepted-with t w e =
@@ -109,17 +126,15 @@ accepted-with t w e =
     let b3 = orElse-both _ _ (b2 .right) in
     let b4 = orElse-both _ _ (b3 .right) in
     let b5 = orElse-both _ _ (b4 .right) in
-    let b6 = orElse-both _ _ (b5 .right) in
     record {
-      side-most = at-most 5 1 (side w) (b1 .left);
-      accreditation-most = at-most 5 1 (accreditation w) (b2 .left);
-      bids = λ s h. accepted-bid w s (first-at _ 5 (b3 .left) s h);
-      hedge-most = at-most 10 (greatestBreak w) (hedge w) (b4 .left);
+      head = accepted-head w (b1 .left);
+      bids = λ s h. accepted-bid w s (first-at _ 5 (b2 .left) s h);
+      hedge-most = at-most 10 (greatestBreak w) (hedge w) (b3 .left);
       hedge-withdrawal =
-          λ h. eqb-true (hedge w) 0 (not-false (eqb (hedge w) 0) (and-false _ _ (refuse-zero 10 _ (b5 .left)) h));
-      pricing-most = λ s h. at-most 11 _ _ (total-both t w s (first-at _ 5 (b6 .left) s h) .left);
-      operating-most = λ s h. at-most 11 _ _ (total-both t w s (first-at _ 5 (b6 .left) s h) .right);
-      actual-most = λ i h. actual-is w i (first-at _ 5 (b6 .right) i h);
+          λ h. eqb-true (hedge w) 0 (not-false (eqb (hedge w) 0) (and-false _ _ (refuse-zero 10 _ (b4 .left)) h));
+      pricing-most = λ s h. at-most 11 _ _ (total-both t w s (first-at _ 5 (b5 .left) s h) .left);
+      operating-most = λ s h. at-most 11 _ _ (total-both t w s (first-at _ 5 (b5 .left) s h) .right);
+      actual-most = λ i h. actual-is w i (first-at _ 5 (b5 .right) i h);
     }
 
 pub accepted-line : (w : List ℕ) → lineFault w ≡ 0 → AcceptedLine w

@@ -3,31 +3,55 @@ use Prim.Native.Nat.{ℕ, _+_, _*_, _-_, _≤_, _<_}
 use native.Mathlib.Omega.{arith}
 use mathlib.Core.Path.{_≡_, refl, sym, _∙_, ap}
 use mathlib.Core.List.{List}
+use mathlib.Core.Bool.{true, false, _&&_}
 use lib.ListN.{length, take, drop, length-take, length-drop}
 use lib.Seq.{take-all}
+use lib.Dec.{ltb}
 use borrow.Author.Tests.{lt-ltb, le-ltb}
 use Rattle.rules.specs.Fold.{_orElse_, first}
 use Rattle.rules.specs.Layout.{side, accreditation, bidCount, operatingTable}
-use Rattle.rules.specs.Refusals.{breakFault, bidFault, lineFaultWith, lineFault}
+use Rattle.rules.specs.Refusals.{headFault, breakFault, bidFault, lineFaultWith, lineFault}
 use Rattle.laws.specs.Folds.{stops, passes, ends-at, none-at, part-stops, part-passes, orElse-assoc, fold-stops}
 use Rattle.line_limits.specs.Faults.{hedgeFault, limitsFault}
-use Rattle.line.specs.Parts.{lineFrom, headFault}
+use Rattle.line.specs.Parts.{lineFrom}
 use Rattle.line_bids.specs.Counts.{countFault}
 use Rattle.line_bids.specs.Slots.{slotsFault}
 
--- refusal 6
+-- refusal 6, by side and accreditation
 module _ (w : List ℕ) (x : ℕ) (sd : x ≡ side w) where
   pub head-side : 1 < x → 6 ≡ headFault w
   unfolding headFault
   head-side h = stops 5 _ _ (lt-ltb 1 (side w) (omega arith))
 
-  pub head-accreditation : x ≤ 1 → (y : ℕ) → y ≡ accreditation w → 1 < y → 6 ≡ headFault w
-  unfolding headFault
-  head-accreditation l y e h = passes 6 _ _ _ (le-ltb 1 (side w) (omega arith)) (ends-at 6 _ (lt-ltb 1 (accreditation w) (omega arith)))
+  module _ (l : x ≤ 1) (y : ℕ) (e : y ≡ accreditation w) where
+    sided : ltb 1 (side w) ≡ false
+    sided = le-ltb 1 (side w) (omega arith)
 
-  pub head-none : x ≤ 1 → (y : ℕ) → y ≡ accreditation w → y ≤ 1 → 0 ≡ headFault w
-  unfolding headFault
-  head-none l y e h = passes 6 _ _ _ (le-ltb 1 (side w) (omega arith)) (none-at 6 _ (le-ltb 1 (accreditation w) (omega arith)))
+    pub head-yes-no : y ≤ 1 → 0 ≡ headFault w
+    unfolding headFault
+    head-yes-no h =
+        passes 6 _ _ _ sided
+        (passes 6 _ _ _ (rw (le-ltb 1 (accreditation w) (omega arith))) (none-at 6 _ (le-ltb 63 (accreditation w) (omega arith))))
+
+    module _ (more : 1 < y) where
+      above : ltb 1 (accreditation w) ≡ true
+      above = lt-ltb 1 (accreditation w) (omega arith)
+
+      pub head-below-sets : y < 32 → 6 ≡ headFault w
+      unfolding headFault
+      head-below-sets h = passes 6 _ _ _ sided (stops 5 _ _ (rw (above, lt-ltb (accreditation w) 32 (omega arith))))
+
+      module _ (set : 32 ≤ y) where
+        no-gap : (ltb 1 (accreditation w) && ltb (accreditation w) 32) ≡ false
+        no-gap = rw (above, le-ltb (accreditation w) 32 (omega arith))
+
+        pub head-above-sets : 63 < y → 6 ≡ headFault w
+        unfolding headFault
+        head-above-sets h = passes 6 _ _ _ sided (passes 6 _ _ _ no-gap (ends-at 6 _ (lt-ltb 63 (accreditation w) (omega arith))))
+
+        pub head-set : y ≤ 63 → 0 ≡ headFault w
+        unfolding headFault
+        head-set h = passes 6 _ _ _ sided (passes 6 _ _ _ no-gap (none-at 6 _ (le-ltb 63 (accreditation w) (omega arith))))
 
 -- one bid, part by part, with the count that was read
 bid-is : (w : List ℕ) (s : ℕ) → bidFault w s ≡ countFault (bidCount w s) orElse (first (breakFault w s) (bidCount w s) orElse slotsFault w s)
@@ -52,7 +76,7 @@ module _ (w : List ℕ) (s n : ℕ) (count : n ≡ bidCount w s) where
 
 -- the line, part by part
 line-is : (w : List ℕ) → lineFault w ≡ headFault w orElse (first (bidFault w) 5 orElse limitsFault (operatingTable w) w)
-unfolding lineFault lineFaultWith headFault limitsFault hedgeFault
+unfolding lineFault lineFaultWith limitsFault hedgeFault
 line-is w = simp orElse-assoc
 
 module _ (w : List ℕ) (h : ℕ) (head : h ≡ headFault w) where

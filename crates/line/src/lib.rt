@@ -12,8 +12,8 @@ ghost use mathlib.Core.Path.{_≡_};
 ghost use Prim.Native.Nat.{_+_, _*_, _≤_};
 ghost use lib.ListN.{length};
 ghost use Rattle.rules.specs.Fold.{first};
-ghost use Rattle.rules.specs.Refusals.{lineFault};
-ghost use Rattle.line.specs.Parts.{headFault, lineFrom};
+ghost use Rattle.rules.specs.Refusals.{headFault, lineFault};
+ghost use Rattle.line.specs.Parts.{lineFrom};
 
 // Refusal 6: side and accreditation.
 pub fn head_number(line: &[u8]) -> u32
@@ -23,7 +23,14 @@ pub fn head_number(line: &[u8]) -> u32
     if side(line) > 1 {
         return 6;
     }
-    if accreditation(line) > 1 {
+    let word = accreditation(line);
+    if word <= 1 {
+        return 0;
+    }
+    if word < 32 {
+        return 6;
+    }
+    if word > 63 {
         return 6;
     }
     0

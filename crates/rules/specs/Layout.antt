@@ -69,7 +69,8 @@ clawback d = marketWord d 11
 abbrev pub lineAt : List ℕ → ℕ → List ℕ
 lineAt d k = take lineBytes (drop (linesAt + lineBytes * k) d)
 
--- "Line, 165 words: participant, point (any value), side (0 injection, 1 withdrawal), accreditation (0 no, 1 yes), hedge"
+-- "Line, 165 words: participant, point (any value), side (0 injection, 1 withdrawal), accreditation (0 no, 1 yes), hedge"; an accreditation
+-- of 32 to 63 is a set of schedules (document 02, F-7)
 abbrev pub participant : List ℕ → ℕ
 participant w = field w 0
 

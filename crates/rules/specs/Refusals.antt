@@ -82,11 +82,17 @@ totalFault t w s =
 unfoldable pub actualFault : List ℕ → ℕ → ℕ
 actualFault w i = refuse 13 (ltb quantityMost (actualEntry w i))
 
--- each line: "6: side or accreditation above 1", the bids, "11: hedge above M, or not 0 on a withdrawal", 12, 13
+-- each line: "6: side or accreditation above 1"; of accreditation "Refusal 6 now covers 2 to 31 and above 63" (document 02, F-7)
+unfoldable pub headFault : List ℕ → ℕ
+headFault w =
+    refuse 6 (ltb 1 (side w))
+    orElse refuse 6 (ltb 1 (accreditation w) && ltb (accreditation w) 32)
+    orElse refuse 6 (ltb 63 (accreditation w))
+
+-- each line: 6, the bids, "11: hedge above M, or not 0 on a withdrawal", 12, 13
 unfoldable pub lineFaultWith : List (List ℕ) → List ℕ → ℕ
 lineFaultWith t w =
-    refuse 6 (ltb 1 (side w))
-    orElse refuse 6 (ltb 1 (accreditation w))
+    headFault w
     orElse first (bidFault w) 5
     orElse refuse 11 (ltb (greatestBreak w) (hedge w))
     orElse refuse 11 (withdrawal (side w) && not (eqb (hedge w) 0))

@@ -1,5 +1,5 @@
--- Document 01, "Steps and prices" (FD 4.2, 4.3).
-use Prim.Native.Nat.{ℕ, zero, suc, _-_, min}
+-- Document 01, "Steps and prices" (FD 4.2, 4.3); whether a step is paid, by document 02, F-7.
+use Prim.Native.Nat.{ℕ, zero, suc, _-_, _/_, _%_, _^_, min}
 use mathlib.Core.List.{List, [], _∷_, _++_}
 use mathlib.Core.Bool.{Bool, cond, not, _&&_}
 use lib.ListN.{length, getD}
@@ -71,9 +71,15 @@ capped d s p = cond (eqb (capMark d s) 1) (min p (priceCap d)) p
 unfoldable pub hedged : List ℕ → ℕ → Bool
 hedged w u = leb u (hedge w)
 
--- "A step is paid if its line is accredited and it isn't hedged" (document 01, "Payments"), asked in schedule s
-unfoldable pub accredited : List ℕ → ℕ → Bool
-accredited w s = eqb (accreditation w) 1
+-- "Accreditation 32 to 63 means 32 plus a set of schedules, bit s-1 for schedule s; 0 and 1 keep their meaning" (document 02, F-7):
+-- whether an accreditation holds in schedule s, which counts from 0 here, so that its bit is s
+unfoldable pub holdsIn : ℕ → ℕ → Bool
+holdsIn a s = cond (ltb a 32) (eqb a 1) (eqb ((a - 32) / 2 ^ s % 2) 1)
 
+unfoldable pub accredited : List ℕ → ℕ → Bool
+accredited w s = holdsIn (accreditation w) s
+
+-- "A step is paid, and counts in B, in the schedules where it is accredited and unhedged" (document 02, F-7): the step that ends at u, in s.
+-- Document 01, "Payments", asks the same of the whole day: "A step is paid if its line is accredited and it isn't hedged"
 unfoldable pub paid : List ℕ → ℕ → ℕ → Bool
 paid w u s = accredited w s && not (hedged w u)

@@ -18,7 +18,6 @@ use step_pool::pool_amounts::Changes;
 use step_pool::pool_amounts::SidePool;
 use step_pool::skipped_steps::all_zero;
 use step_pool::skipped_steps::changes_on;
-use step_pool::skipped_steps::unconstrained;
 use step_pool::skipped_steps::unpaid;
 use step_quantities::constrained::constrained_on;
 ghost use mathlib.Core.Path.{_≡_};
@@ -109,9 +108,6 @@ pub fn money_with(m: Money, x: Step, claw: u32, p: SidePool) -> Money
     ensures { λ r. ⌜ r ≡ moneySum m (moneyOf (finalOn x claw p)) ⌝ }
 {
     if unpaid(x) {
-        return m;
-    }
-    if unconstrained(x) {
         return m;
     }
     let c = constrained_on(x);

@@ -11,7 +11,7 @@ use Rattle.rules.specs.declared.Step.{Step}
 use Rattle.laws.specs.Accepted.{AcceptedLine}
 use Rattle.step_inputs.specs.declared.inputs.Market.{Market}
 use Rattle.step_inputs.specs.declared.inputs.LineTotals.{LineTotals}
-use Rattle.step_terms.specs.Terms.{cappedIn, paidIn}
+use Rattle.step_terms.specs.Terms.{cappedIn, accreditedIn, paidRow}
 
 unfoldable pub marketOf : List ℕ → Market
 marketOf d =
@@ -27,7 +27,7 @@ unfoldable pub totalsOf : List (List ℕ) → List ℕ → LineTotals
 totalsOf t w =
     record {
       side = layout.side w;
-      accreditation = layout.accreditation w;
+      accredited = five (accreditedIn (layout.accreditation w));
       hedge = layout.hedge w;
       pricing = five (pricingTotal w);
       operating = five (tableTotal t);
@@ -43,7 +43,7 @@ stepWith m t l u p f =
       price = five (cappedIn (m .mark) (m .cap) p);
       flag = f;
       market = m .price;
-      paid = five (paidIn (t .accreditation) (t .hedge) u);
+      paid = paidRow (t .accredited) (t .hedge) u;
       pricing = t .pricing;
       operating = t .operating;
       actual = t .actual;

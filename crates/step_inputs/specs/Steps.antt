@@ -1,14 +1,17 @@
 -- Step j of line k of an accepted day is what the parts give, and its sizes.
 use Prim.Native.Nat.{ℕ, _≤_, _<_}
 use native.Mathlib.Omega.{arith}
-use mathlib.Core.Path.{_≡_, _∙_, ap}
+use mathlib.Core.Path.{_≡_, refl, _∙_, ap}
 use mathlib.Core.List.{List}
-use lib.ListN.{length, getD}
+use mathlib.Core.Bool.{Bool, true, false, cond, not, _&&_}
+use lib.ListN.{length, getD, replicate}
+use lib.Dec.{leb}
 use Rattle.rules.specs.Fold.{five}
-use Rattle.rules.specs.Layout.{lineAt, operatingTable}
-use Rattle.rules.specs.Steps.{ends, stepCount, upperEnd, lowerEnd, price, flag, capped, paid, accredited, hedged}
+use Rattle.rules.specs.Layout.{lineAt, accreditation, hedge, operatingTable}
+use Rattle.rules.specs.Steps.{ends, stepCount, upperEnd, lowerEnd, price, flag, capped, paid, holdsIn, accredited, hedged}
 use Rattle.rules.specs.Cutting.{cutOf, flagWord, priceRow, prices, flags}
 use Rattle.rules.specs.Quantities.{tableTotal, tableActual}
+use Rattle.rules.specs.Payments.{bit}
 use Rattle.rules.specs.Days.{stepOf}
 use Rattle.laws.specs.Folds.{sum-le, at-five, same-five}
 use Rattle.laws.specs.Accepted.{AcceptedLine}
@@ -16,14 +19,29 @@ use Rattle.cutter.specs.Arrays.{bitAt, priceIn, flagIn, bits-at, padded-at, pad
 use Rattle.cutter.specs.Prices.{prices-at, prices-length, flags-at, flags-most}
 use Rattle.cutter.specs.Ends.{count-most}
 use Rattle.step_inputs.specs.Inputs.{marketOf, totalsOf, stepWith}
-use Rattle.step_terms.specs.Terms.{cappedAt, cappedIn, paidOn, paidIn}
+use Rattle.step_terms.specs.Terms.{cappedAt, cappedIn, accreditedIn, paidRow}
+
+-- in each schedule a mark that one test decides, and nothing where another holds
+both-none : (b : Bool) → bit (b && false) ≡ 0
+both-none true = refl
+both-none false = refl
+
+both-all : (b : Bool) → bit (b && true) ≡ bit b
+both-all true = refl
+both-all false = refl
+
+marks-by : (h : Bool) (f : ℕ → Bool) → cond h (replicate 5 0) (five (λ s. bit (f s))) ≡ five (λ s. bit (f s && not h))
+marks-by true f = simp both-none
+marks-by false f = simp both-all
 
 -- the parts of `stepOf`, with the cutter's rows
 step-parts : (d : List ℕ) (k j : ℕ) (p f : List ℕ)
     → p ≡ five (λ s. price (lineAt d k) s (upperEnd (lineAt d k) j)) → f ≡ five (λ s. flag (lineAt d k) s (upperEnd (lineAt d k) j))
     → stepWith (marketOf d) (totalsOf (operatingTable (lineAt d k)) (lineAt d k)) (lowerEnd (lineAt d k) j) (upperEnd (lineAt d k) j) p f ≡ stepOf d k j
-unfolding stepWith marketOf totalsOf cappedIn cappedAt paidIn paidOn stepOf capped paid accredited hedged
-step-parts d k j p f a b = rw (a, b)
+unfolding stepWith marketOf totalsOf cappedIn cappedAt paidRow accreditedIn stepOf capped paid accredited hedged
+step-parts d k j p f a b =
+    let w = lineAt d k in
+    rw (a, b, marks-by (leb (upperEnd w j) (hedge w)) (holdsIn (accreditation w)))
 
 -- rows of the cutter's answer
 module _ (w : List ℕ) (h : AcceptedLine w) (j : ℕ) (l : j < stepCount w) where

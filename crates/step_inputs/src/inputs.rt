@@ -13,6 +13,7 @@ use line_quantities::rows::pricing_totals;
 use line_totals::effective_actual;
 use line_totals::operating_totals;
 use rules::Step;
+use step_terms::accredited_row;
 use step_terms::capped_row;
 use step_terms::paid_row;
 ghost use mathlib.Core.Path.{_≡_};
@@ -34,7 +35,7 @@ pub struct Market {
 // What the steps of a line share.
 pub struct LineTotals {
     pub side: u32,
-    pub accreditation: u32,
+    pub accredited: [u32; 5],
     pub hedge: u32,
     pub pricing: [u32; 5],
     pub operating: [u32; 5],
@@ -82,7 +83,7 @@ pub fn totals_of(line: &[u8], table: [[u32; 5]; 5]) -> LineTotals
     let last = table[4];
     LineTotals {
         side: side(line),
-        accreditation: accreditation(line),
+        accredited: accredited_row(accreditation(line)),
         hedge: hedge(line),
         pricing: narrow_row(pricing_totals(line)),
         operating: narrow_row(operating_totals(table)),
@@ -103,6 +104,7 @@ fn step_of(
 {
     let mark = m.mark;
     let market = m.price;
+    let accredited = t.accredited;
     let pricing = t.pricing;
     let operating = t.operating;
     Step {
@@ -112,7 +114,7 @@ fn step_of(
         price: capped_row(mark, m.cap, price),
         flag,
         market,
-        paid: paid_row(t.accreditation, t.hedge, upper),
+        paid: paid_row(accredited, t.hedge, upper),
         pricing,
         operating,
         actual: t.actual,

@@ -1,14 +1,13 @@
 -- Rows of five as the code has them: sums of two, pools of a side, and what the final payments take back.
 use Prim.Native.Nat.{ℕ, _+_, _*_, _-_, _≤_, _<_, _^_, max}
-use mathlib.Core.Bool.{Bool, cond, not, _||_}
+use mathlib.Core.Bool.{Bool, cond, not}
 use mathlib.Core.List.{List}
 use mathlib.Core.Path.{_≡_}
-use lib.Dec.{eqb, ltb, leb}
+use lib.Dec.{eqb, ltb}
 use lib.IntN.{ℤ, subℕ}
 use Rattle.rules.specs.Fold.{mostTo, five, at, eqbZ}
 use Rattle.laws.specs.Ints.{mi}
 use Rattle.rules.specs.Layout.{quantityMost, priceMost, mostLines}
-use Rattle.rules.specs.Quantities.{leastFrom}
 use Rattle.rules.specs.Matching.{rise, fall}
 use Rattle.rules.specs.Payments.{Pool, bit, initial, revised, finalPayment}
 use Rattle.rules.specs.declared.Step.{Step}
@@ -134,10 +133,6 @@ pub record InPool (x : Step) (p : SidePool) : Type 0 where
 -- whether a row of five is 0 throughout
 unfoldable pub allZero : List ℕ → Bool
 allZero v = eqb (mostTo 5 (at v)) 0
-
--- whether a step lies within every pricing total or past every operating total
-unfoldable pub isUnconstrained : Step → Bool
-isUnconstrained x = leb (x .upper) (leastFrom (x .pricing) 0 4) || leb (mostTo 5 (at (x .operating))) (x .lower)
 
 -- a step whose initial payments take nothing back
 pub record Kept (x : Step) : Type 0 where

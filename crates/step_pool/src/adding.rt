@@ -4,7 +4,6 @@ use crate::pool_amounts::Changes;
 use crate::pool_amounts::SidePool;
 use crate::skipped_steps::all_zero;
 use crate::skipped_steps::changes_on;
-use crate::skipped_steps::unconstrained;
 use crate::skipped_steps::unpaid;
 use numbers::bit;
 use numbers::wide;
@@ -117,16 +116,12 @@ pub fn pool_add(a: SidePool, b: SidePool) -> SidePool
     }
 }
 
-// A pool with one step more. An unpaid step adds nothing, nor does an unconstrained one; most others take nothing back, and need no
-// matches.
+// A pool with one step more. An unpaid step adds nothing; most others take nothing back, and need no matches.
 pub fn pool_with(p: SidePool, x: Step) -> SidePool
     requires { ⌜ (Sized x) × (Addable p (stepPool x)) × (poolSum p noPool ≡ p) ⌝ }
     ensures { λ r. ⌜ r ≡ poolSum p (stepPool x) ⌝ }
 {
     if unpaid(x) {
-        return p;
-    }
-    if unconstrained(x) {
         return p;
     }
     let c = constrained_on(x);

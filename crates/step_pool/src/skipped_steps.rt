@@ -12,7 +12,7 @@ ghost use mathlib.Core.Path.{_≡_};
 ghost use Rattle.rules.specs.Fold.{mostTo, five, at};
 ghost use Rattle.rules.specs.Quantities.{leastFrom};
 ghost use Rattle.rules.specs.Payments as paper;
-ghost use Rattle.step_pool.specs.Amounts.{changesOn, allZero, isUnconstrained};
+ghost use Rattle.step_pool.specs.Amounts.{changesOn, allZero};
 
 // Whether all five are 0.
 pub fn all_zero(v: [u64; 5]) -> bool
@@ -24,7 +24,8 @@ pub fn all_zero(v: [u64; 5]) -> bool
     greater64(c, v[4]) == 0
 }
 
-fn least(q: [u32; 5]) -> u32
+// The least of five.
+pub fn least(q: [u32; 5]) -> u32
     ensures { λ r. ⌜ r ≡ leastFrom q 0 4 ⌝ }
 {
     let d = lesser(q[3], q[4]);
@@ -33,7 +34,8 @@ fn least(q: [u32; 5]) -> u32
     lesser(q[0], b)
 }
 
-fn most(q: [u32; 5]) -> u32
+// The greatest of five.
+pub fn most(q: [u32; 5]) -> u32
     ensures { λ r. ⌜ r ≡ mostTo 5 (at q) ⌝ }
 {
     let a = greater(q[0], q[1]);
@@ -48,18 +50,6 @@ pub fn unpaid(x: Step) -> bool
 {
     let marks = x.paid;
     most(marks) == 0
-}
-
-// Whether the step lies within every pricing total or past every operating total: its C are all 0.
-pub fn unconstrained(x: Step) -> bool
-    ensures { λ r. ⌜ r ≡ isUnconstrained x ⌝ }
-{
-    let pricing = x.pricing;
-    let operating = x.operating;
-    if x.upper <= least(pricing) {
-        return true;
-    }
-    most(operating) <= x.lower
 }
 
 // From C and R.

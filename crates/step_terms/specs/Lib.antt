@@ -1,2 +1,3 @@
 -- A step's price under the cap, and whether it is paid.
 pub mod Terms
+pub mod Accreditation

@@ -1,8 +1,9 @@
 // A step's price under the administered price cap, and whether it is paid, by schedule.
+use numbers::bit;
 use numbers::lesser;
 ghost use mathlib.Core.Path.{_≡_};
 ghost use Rattle.rules.specs.Fold.{five};
-ghost use Rattle.step_terms.specs.Terms.{cappedAt, cappedIn, paidOn, paidIn};
+ghost use Rattle.step_terms.specs.Terms.{cappedAt, cappedIn, accreditedIn, paidRow};
 
 // A price, no more than the cap where the mark is 1.
 fn capped(mark: u32, cap: u32, price: u32) -> u32
@@ -27,23 +28,24 @@ pub fn capped_row(mark: [u32; 5], cap: u32, price: [u32; 5]) -> [u32; 5]
     ]
 }
 
-// 1 where a step that ends at `upper` is paid.
-fn paid(accreditation: u32, hedge: u32, upper: u32) -> u32
-    ensures { λ r. ⌜ r ≡ paidOn accreditation hedge upper ⌝ }
+// 1 in each schedule in which an accreditation holds.
+pub fn accredited_row(accreditation: u32) -> [u32; 5]
+    ensures { λ r. ⌜ r ≡ five (accreditedIn accreditation) ⌝ }
 {
-    if accreditation != 1 {
-        return 0;
+    if accreditation < 32 {
+        let all = bit(accreditation == 1);
+        return [all, all, all, all, all];
     }
-    if upper <= hedge {
-        return 0;
-    }
-    1
+    let set = accreditation - 32;
+    [set % 2, set / 2 % 2, set / 4 % 2, set / 8 % 2, set / 16 % 2]
 }
 
-// The same in each schedule.
-pub fn paid_row(accreditation: u32, hedge: u32, upper: u32) -> [u32; 5]
-    ensures { λ r. ⌜ r ≡ five (paidIn accreditation hedge upper) ⌝ }
+// 1 in each schedule in which a step that ends at `upper` is paid.
+pub fn paid_row(accredited: [u32; 5], hedge: u32, upper: u32) -> [u32; 5]
+    ensures { λ r. ⌜ r ≡ paidRow accredited hedge upper ⌝ }
 {
-    let p = paid(accreditation, hedge, upper);
-    [p, p, p, p, p]
+    if upper <= hedge {
+        return [0; 5];
+    }
+    accredited
 }

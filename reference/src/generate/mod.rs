@@ -5,6 +5,7 @@ mod draw;
 mod edges;
 mod line_faults;
 mod random;
+mod sets;
 
 use crate::layout::*;
 use day_faults::{line_mut, line_with_own_key, DAY_FAULTS};
@@ -12,6 +13,10 @@ use draw::{draw_day, draw_line, Scale};
 pub use edges::edge_days;
 use line_faults::LINE_FAULTS;
 use random::Random;
+pub use sets::{
+    accreditation_days, set_day, set_fault_day, set_fault_day_and_number, set_fault_line,
+    set_fault_line_and_number, set_line, small_set_day,
+};
 
 /// A day without fault: 1 to 64 lines.
 pub fn valid_day(seed: u64) -> Vec<u8> {

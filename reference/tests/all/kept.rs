@@ -23,6 +23,32 @@ pub fn kept(crate_name: &str, file: &str) -> Vec<u8> {
     stored(&format!("crates/{crate_name}/{file}"))
 }
 
+/// The days or lines that a program is run on.
+pub fn entries(program: &str) -> Vec<Vec<u8>> {
+    let pack = kept(program, "stdin");
+    let mut pack = &pack[..];
+    std::iter::from_fn(|| pack::read(&mut pack).unwrap()).collect()
+}
+
+/// What the program writes for these commands, one after another.
+fn made(commands: &[&str]) -> Vec<u8> {
+    let words = |command: &&str| run(&command.split(' ').collect::<Vec<_>>(), &[]);
+    commands.iter().flat_map(words).collect()
+}
+
+/// The numbers of a pack of days, each on a line.
+fn numbers(pack: &[u8]) -> String {
+    String::from_utf8(run(&["expect", "number"], pack)).unwrap()
+}
+
+fn assert_all_numbers(pack: &[u8], wanted: impl IntoIterator<Item = u32>) {
+    let numbers = numbers(pack);
+    for number in wanted {
+        let line = number.to_string();
+        assert!(numbers.lines().any(|l| l == line), "no {number}");
+    }
+}
+
 #[test]
 fn examples() {
     let made: [(&str, &[&str]); 4] = [
@@ -39,10 +65,10 @@ fn examples() {
     }
 }
 
-/// The worked day of docs/RULES.md, whose report and steps were worked out by hand, and the winter day, whose report was.
+/// The worked days of docs/RULES.md, whose report and steps were worked out by hand, and the winter day, whose report was.
 #[test]
 fn worked_by_hand() {
-    for name in ["rules", "winter"] {
+    for name in ["rules", "accreditation", "winter"] {
         let day = stored(&format!("examples/{name}.day"));
         for (program, ending) in [("settle", "report"), ("steps", "steps")] {
             let file = format!("examples/{name}.{ending}");
@@ -53,16 +79,13 @@ fn worked_by_hand() {
 
 #[test]
 fn day_numbers() {
-    let damaged = run(&["days", "4608", "57", "damaged"], &[]);
-    let pack = [run(&["edges"], &[]), damaged.clone()].concat();
+    let damaged = made(&["days 4608 57 damaged"]);
+    let sets = made(&["accreditations", "days 0 34 set-faults"]);
+    let pack = [made(&["edges"]), damaged.clone(), sets.clone()].concat();
     assert!(kept("check_day_numbers", "stdin") == pack);
-    let numbers = run(&["expect", "number"], &pack);
-    assert!(kept("check_day_numbers", "stdout") == numbers);
-    let of_damaged = String::from_utf8(run(&["expect", "number"], &damaged)).unwrap();
-    for number in 0..=14 {
-        let line = number.to_string();
-        assert!(of_damaged.lines().any(|l| l == line), "no {number}");
-    }
+    assert!(kept("check_day_numbers", "stdout") == numbers(&pack).as_bytes());
+    assert_all_numbers(&damaged, 0..=14);
+    assert_all_numbers(&sets, [0, 5, 6, 13, 14]);
 }
 
 #[test]
@@ -72,40 +95,53 @@ fn settle() {
     assert_eq!(kept("settle", "stdout"), K10_REPORT.as_bytes());
 }
 
-/// Days of 1 to 64 lines, valid and damaged, with every refusal that a file can have.
+/// Days of 1 to 64 lines, valid and damaged, with every refusal that a file can have; then days with sets.
 #[test]
 fn settle_days() {
-    let pack = run(&["days", "1", "240", "mixed"], &[]);
-    assert!(kept("check_settle", "stdin") == pack);
-    let reports = run(&["expect", "settle"], &pack);
-    assert!(kept("check_settle", "stdout") == reports);
-    let reports = String::from_utf8(reports).unwrap();
-    for number in 1..=14 {
-        let line = format!("refused {number}");
-        assert!(reports.lines().any(|l| l == line), "no {line}");
-    }
-    for count in [1, 64] {
-        let line = format!("day {count}");
-        assert!(reports.lines().any(|l| l == line), "no {line}");
+    let mixed = made(&["days 1 240 mixed"]);
+    let sets = made(&[
+        "accreditations",
+        "days 810 48 sets",
+        "days 64 64 small-sets",
+        "days 0 34 set-faults",
+    ]);
+    assert!(kept("check_settle", "stdin") == [mixed.clone(), sets.clone()].concat());
+    let reports = [&mixed, &sets].map(|pack| run(&["expect", "settle"], pack));
+    assert!(kept("check_settle", "stdout") == reports.concat());
+    assert_all_numbers(&mixed, 1..=14);
+    assert_all_numbers(&sets, [0, 5, 6, 13, 14]);
+    for reports in reports {
+        let reports = String::from_utf8(reports).unwrap();
+        for count in [1, 64] {
+            let line = format!("day {count}");
+            assert!(reports.lines().any(|l| l == line), "no {line}");
+        }
     }
 }
 
-/// Lines of both sides with every count of steps, and every refusal of a line.
-#[test]
-fn cut_lines() {
-    let lines = run(&["lines", "1", "1000"], &[]);
-    assert!(kept("check_cut", "stdin") == lines);
-    assert!(kept("check_cut", "stdout") == run(&["expect", "cut"], &lines));
-    let mut counts = BTreeSet::new();
-    let mut numbers = BTreeSet::new();
-    let mut rest = &lines[..];
-    while let Some(line) = pack::read(&mut rest).unwrap() {
+/// Sides with counts of steps, and numbers, of a pack of lines.
+fn counts_and_numbers(mut pack: &[u8]) -> (BTreeSet<(u8, u32)>, BTreeSet<u32>) {
+    let (mut counts, mut numbers) = (BTreeSet::new(), BTreeSet::new());
+    while let Some(line) = pack::read(&mut pack).unwrap() {
         let answer = cut(&line);
         match answer.number {
             0 => counts.insert((line[4 * SIDE], answer.count)),
             number => numbers.insert(number),
         };
     }
+    (counts, numbers)
+}
+
+/// Lines of both sides with every count of steps, and every refusal of a line; then lines with sets.
+#[test]
+fn cut_lines() {
+    let lines = made(&["lines 1 1000"]);
+    let sets = made(&["lines 1 96 sets"]);
+    let pack = [lines.clone(), sets.clone()].concat();
+    assert!(kept("check_cut", "stdin") == pack);
+    assert!(kept("check_cut", "stdout") == run(&["expect", "cut"], &pack));
+    assert_eq!(counts_and_numbers(&sets).1, [6, 18].into());
+    let (counts, numbers) = counts_and_numbers(&lines);
     // A withdrawal has no hedge, so its steps are at most 55.
     let most = MOST_STEPS as u32;
     let injections = (1..=most).map(|count| (0, count));
@@ -128,21 +164,20 @@ fn steps() {
     assert!(kept("steps", "stdout") == run(&["steps"], &day));
 }
 
-/// Days without fault, and damaged ones of every number.
+/// Days without fault, and damaged ones of every number; then days with sets.
 #[test]
 fn steps_days() {
-    let small = run(&["days", "2300", "96", "small"], &[]);
-    let damaged = run(&["days", "7476", "55", "damaged"], &[]);
-    let pack = [small.clone(), damaged.clone()].concat();
+    let small = made(&["days 2300 96 small"]);
+    let damaged = made(&["days 7476 55 damaged"]);
+    let sets = made(&["days 2300 72 small-sets"]);
+    let set_faults = made(&["days 0 34 set-faults"]);
+    let pack = [&small[..], &damaged, &sets, &set_faults].concat();
     assert!(kept("check_steps", "stdin") == pack);
     assert!(kept("check_steps", "stdout") == run(&["expect", "steps"], &pack));
-    let numbers = String::from_utf8(run(&["expect", "number"], &small)).unwrap();
-    assert_eq!(numbers, "0\n".repeat(96));
-    let numbers = String::from_utf8(run(&["expect", "number"], &damaged)).unwrap();
-    for number in 0..=14 {
-        let line = number.to_string();
-        assert!(numbers.lines().any(|l| l == line), "no {number}");
-    }
+    assert_eq!(numbers(&small), "0\n".repeat(96));
+    assert_eq!(numbers(&sets), "0\n".repeat(72));
+    assert_all_numbers(&damaged, 0..=14);
+    assert_all_numbers(&set_faults, [0, 5, 6, 13, 14]);
 }
 
 /// The parts that `check_line_parts` prints, of its day and of parts of its buffer that are refused as days.

@@ -1,6 +1,6 @@
 //! Demand 3 (01 "Totals and book", "Matching") on generated days.
 
-use crate::{book_of, line_count, valid_days};
+use crate::{book_of, law_days, line_count};
 use reference::cut::cut;
 use reference::layout::*;
 use reference::line_part::line_part;
@@ -10,7 +10,7 @@ use reference::view::{view, DayView, View};
 
 #[test]
 fn steps_and_quantities_add_up() {
-    for day in valid_days() {
+    for day in law_days() {
         let views = DayView::new(&day);
         for (k, line) in views.day.lines().enumerate() {
             let steps: Vec<View> = views.line(line).collect();
@@ -45,7 +45,7 @@ fn check_cut(line: &[u8], steps: &[View]) {
 
 #[test]
 fn step_limits_and_matches() {
-    for day in valid_days() {
+    for day in law_days() {
         let views = DayView::new(&day);
         for step in views.day.lines().flat_map(|line| views.line(line)) {
             assert!((0..SCHEDULES).all(|s| step.agino[s] <= step.operating[s]));
@@ -72,7 +72,7 @@ fn check_matches(step: &View) {
 
 #[test]
 fn book_balances() {
-    for day in valid_days() {
+    for day in law_days() {
         let book = book_of(&day);
         let totals: Vec<i64> = (0..5).map(|s| signed(&book, 16 + 16 * s)).collect();
         let adjusted: Vec<i64> = (0..5).map(|s| signed(&book, 24 + 16 * s)).collect();
@@ -94,7 +94,7 @@ fn book_balances() {
 /// The view asked step by step is the one that goes through the day once.
 #[test]
 fn one_view_and_all_views() {
-    for day in valid_days().filter(|day| line_count(day) < 8) {
+    for day in law_days().filter(|day| line_count(day) < 8) {
         let views = DayView::new(&day);
         for (k, line) in views.day.lines().enumerate() {
             for (j, step) in views.line(line).enumerate() {

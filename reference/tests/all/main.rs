@@ -5,10 +5,12 @@ mod kept;
 mod laws;
 mod programs;
 mod reach;
+mod reach_sets;
 mod refusals;
 mod second;
+mod sets;
 
-use reference::generate::valid_day;
+use reference::generate::{set_day, valid_day};
 use reference::layout::book_length;
 use reference::settle::settle;
 
@@ -19,9 +21,19 @@ total 0 20000000 0 -10000000 0
 adjusted 0 10000000 0 0 0
 ";
 
-/// Generated days that every law, and the second computation, is tried on.
+/// Generated days whose lines are accredited in all schedules or in none.
 fn valid_days() -> impl Iterator<Item = Vec<u8>> {
     (0..300).map(valid_day)
+}
+
+/// The same days with accreditation by schedule.
+fn set_days() -> impl Iterator<Item = Vec<u8>> {
+    (0..300).map(set_day)
+}
+
+/// Generated days that every law, and the second computation, is tried on.
+fn law_days() -> impl Iterator<Item = Vec<u8>> {
+    valid_days().chain(set_days())
 }
 
 fn line_count(day: &[u8]) -> usize {

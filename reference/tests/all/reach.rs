@@ -1,6 +1,6 @@
 //! That the generated days reach what the laws are to be tried on.
 
-use crate::kept::kept;
+use crate::kept::entries;
 use crate::{line_count, valid_days};
 use reference::generate::{line, line_with_steps};
 use reference::layout::*;
@@ -10,13 +10,19 @@ use std::collections::BTreeSet;
 
 /// What was met on a day.
 #[derive(Default)]
-struct Met(BTreeSet<&'static str>);
+pub struct Met(BTreeSet<&'static str>);
 
 impl Met {
-    fn note(&mut self, what: &'static str, met: bool) {
+    pub fn note(&mut self, what: &'static str, met: bool) {
         if met {
             self.0.insert(what);
         }
+    }
+
+    /// Those of `wanted` that weren't met.
+    pub fn missing(&self, wanted: &[&'static str]) -> Vec<&'static str> {
+        let missing = wanted.iter().filter(|what| !self.0.contains(*what));
+        missing.copied().collect()
     }
 
     fn day(&mut self, day: &[u8]) {
@@ -35,19 +41,9 @@ impl Met {
             steps.iter().for_each(|step| self.step(step, market));
         }
         for side in [Side::Injection, Side::Withdrawal] {
-            let of_side = views
-                .day
-                .lines()
-                .filter(|line| line.side() == side && line.word(ACCREDITATION) == 1);
-            let paid = |line: Line| {
-                views
-                    .line(line)
-                    .skip_while(move |v| v.upper <= line.word(HEDGE))
-                    .collect()
-            };
-            let steps: Vec<View> = of_side
-                .flat_map(|line| -> Vec<View> { paid(line) })
-                .collect();
+            let lines = views.day.lines().filter(|line| line.side() == side);
+            let accredited = lines.filter(|line| line.word(ACCREDITATION) == 1);
+            let steps: Vec<View> = accredited.flat_map(|line| unhedged(&views, line)).collect();
             (1..5).for_each(|s| self.pool(&steps, s, side));
         }
     }
@@ -166,8 +162,13 @@ fn not_reached(days: impl Iterator<Item = Vec<u8>>) -> Vec<&'static str> {
         "product above 64 bits",
         "initial above the pooled",
     ];
-    let missing = wanted.into_iter().filter(|what| !met.0.contains(what));
-    missing.collect()
+    met.missing(&wanted)
+}
+
+/// The unhedged steps of a line.
+pub fn unhedged<'a>(views: &DayView<'a>, line: Line<'a>) -> Vec<View> {
+    let hedged = |v: &View| v.upper <= line.word(HEDGE);
+    views.line(line).skip_while(hedged).collect()
 }
 
 #[test]
@@ -175,13 +176,22 @@ fn generated_days_reach() {
     assert_eq!(not_reached(valid_days()), [""; 0]);
 }
 
+/// The accepted days of the pack that a program is run on, those with sets or the others.
+pub fn accepted(program: &str, sets: bool) -> Vec<Vec<u8>> {
+    let days = entries(program).into_iter();
+    days.filter(|day| day_number(day) == 0 && has_sets(day) == sets)
+        .collect()
+}
+
+fn has_sets(day: &[u8]) -> bool {
+    let is_set = |line: Line| line.word(ACCREDITATION) >= EMPTY_SET;
+    Day::new(day).lines().any(is_set)
+}
+
 /// The days that the program `check_steps` is run on.
 #[test]
 fn days_of_steps_days_reach() {
-    let pack = kept("check_steps", "stdin");
-    let mut pack = &pack[..];
-    let days = std::iter::from_fn(|| reference::pack::read(&mut pack).unwrap());
-    let valid: Vec<Vec<u8>> = days.filter(|day| day_number(day) == 0).collect();
+    let valid = accepted("check_steps", false);
     assert!(valid.len() >= 60);
     assert!(valid.iter().filter(|day| line_count(day) >= 20).count() >= 5);
     assert_eq!(not_reached(valid.into_iter()), [""; 0]);

@@ -1,8 +1,11 @@
-//! Refusals 1 to 18 (01 "Where each refusal is checked").
+//! Refusals 1 to 18 (01 "Where each refusal is checked", 02 F-7).
 
 use crate::{book_of, line_count, valid_days};
 use reference::cut::{cut, Cut};
-use reference::generate::{damaged_day, damaged_day_and_number, damaged_line_and_number};
+use reference::generate::{
+    damaged_day, damaged_day_and_number, damaged_line_and_number, set_fault_day_and_number,
+    set_fault_line_and_number,
+};
 use reference::k10::k10;
 use reference::layout::*;
 use reference::line_part::line_part;
@@ -36,6 +39,55 @@ fn damaged_lines_have_the_numbers_of_their_faults() {
     assert_eq!(met, [0, 6, 7, 8, 9, 10, 11, 12, 13, 18].into());
 }
 
+#[test]
+fn set_faults_have_their_numbers() {
+    let (mut days, mut lines) = (BTreeSet::new(), BTreeSet::new());
+    for seed in 0..500 {
+        let (day, number) = set_fault_day_and_number(seed);
+        assert_eq!(day_number(&day), number, "seed {seed}");
+        days.insert(number);
+        let (line, number) = set_fault_line_and_number(seed);
+        assert_eq!(cut_number(&line), number, "seed {seed}");
+        lines.insert(number);
+    }
+    assert_eq!(days, [0, 5, 6, 13, 14].into());
+    assert_eq!(lines, [0, 6, 18].into());
+}
+
+/// Accreditation words on both sides of each limit, and the number of settling, view and cutter.
+const ACCREDITATIONS: &[(u32, u32)] = &[
+    (0, 0),
+    (1, 0),
+    (2, 6),
+    (31, 6),
+    (32, 0),
+    (63, 0),
+    (64, 6),
+    (65, 6),
+    (2_147_483_648, 6),
+    (2_147_483_649, 6),
+    (2_147_483_680, 6),
+    (2_147_483_681, 6),
+    (2_147_483_711, 6),
+    (4_294_967_295, 6),
+];
+
+#[test]
+fn accreditation_limits() {
+    for &(accreditation, number) in ACCREDITATIONS {
+        let mut day = k10();
+        put_word(&mut day, LINE + 3, accreditation);
+        let numbers = [
+            day_number(&day),
+            settle_number(&day, 152),
+            view_number(&day, 0, 0),
+            cut_number(&day[64..]),
+        ];
+        assert_eq!(numbers, [number; 4], "accreditation {accreditation}");
+        assert_eq!(line_part_number(&day, 0), 0);
+    }
+}
+
 /// The word a line starts at in a day of one line.
 const LINE: usize = LINES_OFFSET / 4;
 
@@ -59,7 +111,12 @@ const K10_WORDS: &[(usize, u32, u32)] = &[
     (LINE + 1, u32::MAX, 0),
     (LINE + 2, 2, 6),
     (LINE + 2, 1, 9), // its prices rise
+    (LINE + 3, 0, 0),
     (LINE + 3, 2, 6),
+    (LINE + 3, 31, 6),
+    (LINE + 3, 32, 0),
+    (LINE + 3, 63, 0),
+    (LINE + 3, 64, 6),
     (LINE + 4, 3000, 0),
     (LINE + 4, 3001, 11),
     (LINE + 5, 0, 7),

@@ -1,6 +1,6 @@
-//! A second computation, slow and close to the sentences of document 01, and its comparison with the first.
+//! A second computation, slow and close to the sentences of documents 01 and 02, and its comparison with the first.
 
-use crate::{book_of, valid_days};
+use crate::{book_of, law_days};
 use reference::view::{DayView, View};
 use std::collections::BTreeSet;
 
@@ -94,7 +94,7 @@ impl Terms<'_> {
         }
     }
 
-    /// Initial, revised and modified payments of a paid step.
+    /// Initial, revised and modified payments of a step that is paid in all schedules.
     fn payments(&self, p: &Five, c: &Five, m: &[Five; 5]) -> [Five; 3] {
         let rate = five(|s| self.rate(p[s], s));
         let initial = five(|s| (c[s] - if s == 0 { 0 } else { c[s - 1] }) * rate[s]);
@@ -144,8 +144,20 @@ impl Terms<'_> {
         }
     }
 
-    fn is_paid(&self, view: &View) -> bool {
-        self.line[3] == 1 && i128::from(view.upper) > self.line[4]
+    /// 0 is never, 1 always; otherwise the word less 32 is a sum of different powers of two, one for each schedule.
+    fn is_accredited(&self, s: usize) -> bool {
+        const POWERS: [i128; 5] = [1, 2, 4, 8, 16];
+        match self.line[3] {
+            0 => false,
+            1 => true,
+            word => (word - 32) / POWERS[s] % 2 == 1,
+        }
+    }
+
+    /// For each schedule whether the step is paid in it.
+    fn paid(&self, view: &View) -> [bool; 5] {
+        let unhedged = i128::from(view.upper) > self.line[4];
+        std::array::from_fn(|s| unhedged && self.is_accredited(s))
     }
 
     /// The view of a step, its final payments still 0.
@@ -166,11 +178,11 @@ impl Terms<'_> {
             (3, 4),
         ];
         view.matches = order.map(|(r, s)| m[r][s] as u32);
-        if self.is_paid(&view) {
-            let payments = self.payments(&view.price.map(i128::from), &c, &m);
-            let payments = payments.map(|kind| kind.map(|x| x as i64));
-            [view.initial, view.revised, view.modified] = payments;
-        }
+        let paid = self.paid(&view);
+        let payments = self.payments(&view.price.map(i128::from), &c, &m);
+        let if_paid = |kind: Five| five(|s| if paid[s] { kind[s] } else { 0 });
+        let payments = payments.map(|kind| if_paid(kind).map(|x| x as i64));
+        [view.initial, view.revised, view.modified] = payments;
         view
     }
 }
@@ -180,11 +192,11 @@ fn change(view: &View, s: usize) -> i128 {
     c[s] - if s == 0 { 0 } else { c[s - 1] }
 }
 
-/// Fills in the final payments of one side's steps in schedule s; each step comes with whether it is paid.
-fn put_finals(clawback: bool, steps: &mut [(bool, &mut View)], s: usize) {
+/// Fills in the final payments of one side's steps in schedule s; each step comes with where it is paid.
+fn put_finals(clawback: bool, steps: &mut [([bool; 5], &mut View)], s: usize) {
     let total: i128 = steps.iter().map(|(_, v)| i128::from(v.revised[s])).sum();
     let differs = steps.iter().any(|(_, v)| v.revised[s] != v.initial[s]);
-    let paid = || steps.iter().filter(|(paid, _)| *paid);
+    let paid = || steps.iter().filter(|(paid, _)| paid[s]);
     let rises: i128 = paid().map(|(_, v)| change(v, s).max(0)).sum();
     let falls: i128 = paid().map(|(_, v)| (-change(v, s)).max(0)).sum();
     for (_, v) in steps.iter_mut() {
@@ -214,10 +226,10 @@ fn views(day: &[i128]) -> Vec<Vec<View>> {
     };
     let mut views: Vec<Vec<View>> = lines.iter().map(steps_of).collect();
     for withdrawal in [false, true] {
-        let mut steps: Vec<(bool, &mut View)> = Vec::new();
+        let mut steps: Vec<([bool; 5], &mut View)> = Vec::new();
         for (line, views) in lines.iter().zip(&mut views) {
             if line.withdrawal() == withdrawal {
-                steps.extend(views.iter_mut().map(|view| (line.is_paid(view), view)));
+                steps.extend(views.iter_mut().map(|view| (line.paid(view), view)));
             }
         }
         (0..5).for_each(|s| put_finals(day[15] == 1, &mut steps, s));
@@ -259,7 +271,7 @@ fn book(day: &[i128], views: &[Vec<View>]) -> Vec<u8> {
 
 #[test]
 fn second_computation_agrees() {
-    for day in valid_days() {
+    for day in law_days() {
         let words = words(&day);
         let second = views(&words);
         let first = DayView::new(&day);

@@ -1,5 +1,5 @@
 -- `day_pools::line_paid` meets its contract.
-use Prim.Native.Nat.{ℕ, _-_, _≤_}
+use Prim.Native.Nat.{ℕ, _-_, _≤_, _<_}
 use mathlib.Core.Path.{_≡_, refl, _∙_, ap}
 use denote.Ref.{now}
 use native.Mathlib.Omega.{arith}
@@ -16,11 +16,11 @@ use Rattle.day_pools.proofs.line_paid.Statement.{statement}
 use Rattle.day_pools.proofs.line_paid.Tie as tie
 
 abbrev Inv-loop : tie.InvT-loop
-Inv-loop day k m p t ends prices flags count claw n money₀ lower₀ j₀ money lower j =
+Inv-loop day k m p t ends prices flags count claw n money₀ w lower₀ j₀ money lower j =
     (j ≤ n) × (lower ≡ lowerEnd (lineAt day k) j) × (money ≡ moneyTo j (stepMoney (settledDay day) k))
 
 abbrev μ-loop : tie.MeasureT-loop
-μ-loop day k m p t ends prices flags count claw n money₀ lower₀ j₀ money lower j = n - j
+μ-loop day k m p t ends prices flags count claw n money₀ w lower₀ j₀ money lower j = n - j
 
 line-of-requires : tie.Need-line-of-requires Inv-loop μ-loop
 line-of-requires c κs =
@@ -52,67 +52,68 @@ steps-requires c κs =
 loop-holds : tie.Need-loop-holds Inv-loop μ-loop
 unfolding lowerEnd
 loop-holds c =
-    let at-start = c .before .before .before .before .before .before .before .before in
+    let at-start = c .before .before .before .before .before .before .before .before .before in
     (omega arith, refl, no-money (stepMoney (settledDay (now (at-start .args .day))) (at-start .args .k)))
 
-step-at-requires : tie.Need-step-at-requires Inv-loop μ-loop
-step-at-requires c κs =
+money-after-requires : tie.Need-money-after-requires Inv-loop μ-loop
+money-after-requires c κs =
     let at-loop = c .before .before .before in
-    let after-steps = at-loop .before .before .before .before in
+    let after-steps = at-loop .before .before .before .before .before in
     let at-start = after-steps .before .before .before .before .before in
-    step-there (now (at-start .args .day)) (at-start .pre .0) (at-start .args .k) (at-start .pre .1) _
-    (after-steps .before .before .before .line-of .ensures) _ (after-steps .steps .ensures) (at-loop .loop .j)
-    (omega (arith, c)) _ _ _ _ (at-start .pre .2)
-    (after-steps .before .before .operating-table .ensures)
-    (after-steps .before .totals-of .ensures) (at-loop .loop .inv .1)
-
-money-with-requires : tie.Need-money-with-requires Inv-loop μ-loop
-money-with-requires c κs =
-    let at-loop = c .before .before .before .before in
-    let after-steps = at-loop .before .before .before .before in
-    let at-start = after-steps .before .before .before .before .before in
+    let line-of-ensures = after-steps .before .before .before .line-of .ensures in
     let day = now (at-start .args .day) in
     let k = at-start .args .k in
-    let line-of-ensures = after-steps .before .before .before .line-of .ensures in
-    let step-sized′ = step-sized day (at-start .pre .0) k (at-start .pre .1) _ line-of-ensures _
-    (after-steps .steps .ensures) (at-loop .loop .j) (omega (arith, c)) _ (c .step-at .ensures) in
-    let market-claw′ = market-claw day _ (at-start .pre .2) in
-    let step-payable′ = step-payable day (at-start .pre .0) k (at-start .pre .1) _ line-of-ensures _
-    (after-steps .steps .ensures) (at-loop .loop .j) (omega (arith, c)) _ (at-start .pre .3) _ market-claw′ _
-    (c .step-at .ensures) .pooled in
-    let money-addable′ = money-addable day (at-start .pre .0) k (at-start .pre .1) _ line-of-ensures _
-    (after-steps .steps .ensures) (at-loop .loop .j) (omega (arith, c)) _ (at-start .pre .3) _ market-claw′ _ _
-    (c .step-at .ensures) (at-loop .loop .inv .2) in
-    (step-sized′, step-payable′, money-addable′, money-whole (at-loop .loop .j) (stepMoney (settledDay day) k) _ (at-loop .loop .inv .2))
+    let market-claw′ = market-claw day _ (at-start .pre .2) in (
+      step-there day (at-start .pre .0) k (at-start .pre .1) _ line-of-ensures _ (after-steps .steps .ensures)
+          (at-loop .loop .j) (omega (arith, c)) _ _ _ _ (at-start .pre .2) (after-steps .before .before .operating-table .ensures)
+          (after-steps .before .totals-of .ensures) (at-loop .loop .inv .1),
+      at-loop .before .window-of .ensures,
+      step-sized day (at-start .pre .0) k (at-start .pre .1) _ line-of-ensures _ (after-steps .steps .ensures) (at-loop .loop .j)
+          (omega (arith, c)) _ refl,
+      step-payable day (at-start .pre .0) k (at-start .pre .1) _ line-of-ensures _ (after-steps .steps .ensures)
+          (at-loop .loop .j) (omega (arith, c)) _ (at-start .pre .3) _ market-claw′ _ refl,
+      money-addable day (at-start .pre .0) k (at-start .pre .1) _ line-of-ensures _ (after-steps .steps .ensures)
+          (at-loop .loop .j) (omega (arith, c)) _ (at-start .pre .3) _ market-claw′ _ (at-loop .loop .inv .2),
+      money-whole (at-loop .loop .j) (stepMoney (settledDay day) k) _ (at-loop .loop .inv .2),
+    )
 
-add-j : tie.Need-add-j Inv-loop μ-loop
-add-j c =
-    let after-steps = c .before .before .before .before .before .before .before .before .before in
+-- a line has at most 56 steps
+few : (c : tie.In-loop Inv-loop μ-loop) → c .before .loop .j < 56
+few c =
+    let after-steps = c .before .before .before .before .before .before in
     let at-start = after-steps .before .before .before .before .before in
     let count-few′ = count-few (now (at-start .args .day)) (at-start .pre .0) (at-start .args .k) (at-start .pre .1) _
     (after-steps .before .before .before .line-of .ensures) _ (after-steps .steps .ensures) in
-    record { fits = omega (arith, c, count-few′) }
+    omega (arith, c, count-few′)
+
+mul-lower : tie.Need-mul-lower Inv-loop μ-loop
+mul-lower c = record { fits = omega (arith, few (c .before .before .before)) }
+
+array-read-lower : tie.Need-array-read-lower Inv-loop μ-loop
+array-read-lower c = few (c .before .before .before)
+
+add-j : tie.Need-add-j Inv-loop μ-loop
+add-j c = record { fits = omega (arith, few (c .before .before .before)) }
 
 loop-again : tie.Need-loop-again Inv-loop μ-loop
 loop-again c =
-    let after-step-at = c .before in
-    let at-loop = after-step-at .before .before .before .before in
-    let after-steps = at-loop .before .before .before .before in
+    let at-loop = c .before .before .before .before in
+    let after-steps = at-loop .before .before .before .before .before in
     let after-line-of = after-steps .before .before .before in
     let at-start = after-line-of .before .before in
     let day = now (at-start .args .day) in
-    let k = at-start .args .k in
-    let next-lower′ = next-lower day (at-start .pre .0) k (at-start .pre .1) _ (after-line-of .line-of .ensures) _
-    (after-steps .steps .ensures) (at-loop .loop .j) (omega (arith, c)) _ (after-step-at .step-at .ensures) in
-    let money-next′ = money-next day (at-start .pre .0) k (at-start .pre .1) _ (after-line-of .line-of .ensures) _
-    (after-steps .steps .ensures) (at-loop .loop .j) (omega (arith, c)) _ (at-start .pre .3) _
-    (market-claw day _ (at-start .pre .2)) _ _ _ (after-step-at .step-at .ensures) (at-loop .loop .inv .2)
-    (c .money-with .ensures) in
-    (omega (arith, c), next-lower′, money-next′)
+    let k = at-start .args .k in (
+      omega (arith, c),
+      next-lower day (at-start .pre .0) k (at-start .pre .1) _ (after-line-of .line-of .ensures) _
+          (after-steps .steps .ensures) (at-loop .loop .j) (omega (arith, c)) _ refl,
+      money-next day (at-start .pre .0) k (at-start .pre .1) _ (after-line-of .line-of .ensures) _
+          (after-steps .steps .ensures) (at-loop .loop .j) (omega (arith, c)) _ (at-start .pre .3) _
+          (market-claw day _ (at-start .pre .2)) _ _ (at-loop .loop .inv .2) (c .money-after .ensures),
+    )
 
 returns : tie.Need-returns Inv-loop μ-loop
 returns c =
-    let after-steps = c .before .before .before .before .before in
+    let after-steps = c .before .before .before .before .before .before in
     let at-start = after-steps .before .before .before .before .before in
     let day = now (at-start .args .day) in
     let k = at-start .args .k in
@@ -124,4 +125,4 @@ pub line-paid-spec : {M : Type 1} → statement M
 line-paid-spec =
     tie.close
     (tie.spec Inv-loop μ-loop line-of-requires operating-table-requires totals-of-requires steps-requires
-    (λ c. search needs) loop-holds step-at-requires money-with-requires add-j (λ c. search needs) loop-again returns)
+    (λ c. search needs) (λ c κs. search needs) loop-holds money-after-requires mul-lower array-read-lower add-j (λ c. search needs) loop-again returns)

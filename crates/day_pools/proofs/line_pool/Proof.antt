@@ -1,5 +1,5 @@
 -- `day_pools::line_pool` meets its contract.
-use Prim.Native.Nat.{ℕ, _-_, _≤_}
+use Prim.Native.Nat.{ℕ, _-_, _≤_, _<_}
 use mathlib.Core.Path.{_≡_, refl, _∙_, ap}
 use denote.Ref.{now}
 use native.Mathlib.Omega.{arith}
@@ -17,11 +17,11 @@ use Rattle.day_pools.proofs.line_pool.Statement.{statement}
 use Rattle.day_pools.proofs.line_pool.Tie as tie
 
 abbrev Inv-loop : tie.InvT-loop
-Inv-loop day k m t ends prices flags n pool₀ lower₀ j₀ pool lower j =
+Inv-loop day k m t ends prices flags n pool₀ w lower₀ j₀ pool lower j =
     (j ≤ n) × (lower ≡ lowerEnd (lineAt day k) j) × (pool ≡ poolTo j (stepPoolAt (settledDay day) k))
 
 abbrev μ-loop : tie.MeasureT-loop
-μ-loop day k m t ends prices flags n pool₀ lower₀ j₀ pool lower j = n - j
+μ-loop day k m t ends prices flags n pool₀ w lower₀ j₀ pool lower j = n - j
 
 line-of-requires : tie.Need-line-of-requires Inv-loop μ-loop
 line-of-requires c κs =
@@ -53,62 +53,65 @@ steps-requires c κs =
 loop-holds : tie.Need-loop-holds Inv-loop μ-loop
 unfolding lowerEnd
 loop-holds c =
-    let at-start = c .before .before .before .before .before .before .before .before .before .before in
-    (omega arith, refl, c .empty-pool .ensures ∙ no-pool (stepPoolAt (settledDay (now (at-start .args .day))) (at-start .args .k)))
+    let at-start = c .before .before .before .before .before .before .before .before .before .before .before in
+    (omega arith, refl, c .before .empty-pool .ensures ∙ no-pool (stepPoolAt (settledDay (now (at-start .args .day))) (at-start .args .k)))
 
-step-at-requires : tie.Need-step-at-requires Inv-loop μ-loop
-step-at-requires c κs =
+pool-after-requires : tie.Need-pool-after-requires Inv-loop μ-loop
+pool-after-requires c κs =
     let at-loop = c .before .before .before in
-    let after-steps = at-loop .before .before .before .before .before .before in
+    let after-steps = at-loop .before .before .before .before .before .before .before in
     let at-start = after-steps .before .before .before .before .before in
-    step-there (now (at-start .args .day)) (at-start .pre .0) (at-start .args .k) (at-start .pre .1) _
-    (after-steps .before .before .before .line-of .ensures) _ (after-steps .steps .ensures) (at-loop .loop .j)
-    (omega (arith, c)) _ _ _ _ (at-start .pre .2)
-    (after-steps .before .before .operating-table .ensures)
-    (after-steps .before .totals-of .ensures) (at-loop .loop .inv .1)
-
-pool-with-requires : tie.Need-pool-with-requires Inv-loop μ-loop
-pool-with-requires c κs =
-    let at-loop = c .before .before .before .before in
-    let after-steps = at-loop .before .before .before .before .before .before in
-    let after-line-of = after-steps .before .before .before in
-    let at-start = after-line-of .before .before in
+    let line-of-ensures = after-steps .before .before .before .line-of .ensures in
     let day = now (at-start .args .day) in
-    let k = at-start .args .k in
-    let step-sized′ = step-sized day (at-start .pre .0) k (at-start .pre .1) _ (after-line-of .line-of .ensures) _
-    (after-steps .steps .ensures) (at-loop .loop .j) (omega (arith, c)) _ (c .step-at .ensures) in
-    let pool-addable′ = pool-addable day (at-start .pre .0) k (at-start .pre .1) _ (after-line-of .line-of .ensures) _
-    (after-steps .steps .ensures) (at-loop .loop .j) (omega (arith, c)) _ _ (c .step-at .ensures) (at-loop .loop .inv .2) in
-    (step-sized′, pool-addable′, pool-whole (at-loop .loop .j) (stepPoolAt (settledDay day) k) _ (at-loop .loop .inv .2))
+    let k = at-start .args .k in (
+      step-there day (at-start .pre .0) k (at-start .pre .1) _ line-of-ensures _ (after-steps .steps .ensures)
+          (at-loop .loop .j) (omega (arith, c)) _ _ _ _ (at-start .pre .2) (after-steps .before .before .operating-table .ensures)
+          (after-steps .before .totals-of .ensures) (at-loop .loop .inv .1),
+      at-loop .before .window-of .ensures,
+      step-sized day (at-start .pre .0) k (at-start .pre .1) _ line-of-ensures _ (after-steps .steps .ensures) (at-loop .loop .j)
+          (omega (arith, c)) _ refl,
+      pool-addable day (at-start .pre .0) k (at-start .pre .1) _ line-of-ensures _ (after-steps .steps .ensures)
+          (at-loop .loop .j) (omega (arith, c)) _ (at-loop .loop .inv .2),
+      pool-whole (at-loop .loop .j) (stepPoolAt (settledDay day) k) _ (at-loop .loop .inv .2),
+    )
 
-add-j : tie.Need-add-j Inv-loop μ-loop
-add-j c =
-    let after-steps = c .before .before .before .before .before .before .before .before .before .before .before in
+-- a line has at most 56 steps
+few : (c : tie.In-loop Inv-loop μ-loop) → c .before .loop .j < 56
+few c =
+    let after-steps = c .before .before .before .before .before .before .before .before in
     let at-start = after-steps .before .before .before .before .before in
     let count-few′ = count-few (now (at-start .args .day)) (at-start .pre .0) (at-start .args .k) (at-start .pre .1) _
     (after-steps .before .before .before .line-of .ensures) _ (after-steps .steps .ensures) in
-    record { fits = omega (arith, c, count-few′) }
+    omega (arith, c, count-few′)
+
+mul-lower : tie.Need-mul-lower Inv-loop μ-loop
+mul-lower c = record { fits = omega (arith, few (c .before .before .before)) }
+
+array-read-lower : tie.Need-array-read-lower Inv-loop μ-loop
+array-read-lower c = few (c .before .before .before)
+
+add-j : tie.Need-add-j Inv-loop μ-loop
+add-j c = record { fits = omega (arith, few (c .before .before .before)) }
 
 loop-again : tie.Need-loop-again Inv-loop μ-loop
 loop-again c =
-    let after-step-at = c .before in
-    let at-loop = after-step-at .before .before .before .before in
-    let after-steps = at-loop .before .before .before .before .before .before in
+    let at-loop = c .before .before .before .before in
+    let after-steps = at-loop .before .before .before .before .before .before .before in
     let after-line-of = after-steps .before .before .before in
     let at-start = after-line-of .before .before in
     let day = now (at-start .args .day) in
-    let k = at-start .args .k in
-    let next-lower′ = next-lower day (at-start .pre .0) k (at-start .pre .1) _ (after-line-of .line-of .ensures) _
-    (after-steps .steps .ensures) (at-loop .loop .j) (omega (arith, c)) _ (after-step-at .step-at .ensures) in
-    let pool-next′ = pool-next day (at-start .pre .0) k (at-start .pre .1) _ (after-line-of .line-of .ensures) _
-    (after-steps .steps .ensures) (at-loop .loop .j) (omega (arith, c)) _ _ _ (after-step-at .step-at .ensures)
-    (at-loop .loop .inv .2) (c .pool-with .ensures) in
-    (omega (arith, c), next-lower′, pool-next′)
+    let k = at-start .args .k in (
+      omega (arith, c),
+      next-lower day (at-start .pre .0) k (at-start .pre .1) _ (after-line-of .line-of .ensures) _
+          (after-steps .steps .ensures) (at-loop .loop .j) (omega (arith, c)) _ refl,
+      pool-next day (at-start .pre .0) k (at-start .pre .1) _ (after-line-of .line-of .ensures) _
+          (after-steps .steps .ensures) (at-loop .loop .j) (omega (arith, c)) _ _ (at-loop .loop .inv .2) (c .pool-after .ensures),
+    )
 
 returns : tie.Need-returns Inv-loop μ-loop
 unfolding linePool
 returns c =
-    let after-steps = c .before .before .before .before .before .before .before in
+    let after-steps = c .before .before .before .before .before .before .before .before in
     let at-start = after-steps .before .before .before .before .before in
     let day = now (at-start .args .day) in
     let k = at-start .args .k in
@@ -120,5 +123,5 @@ pub line-pool-spec : {M : Type 1} → statement M
 line-pool-spec =
     tie.close
     (tie.spec Inv-loop μ-loop line-of-requires operating-table-requires totals-of-requires steps-requires
-    (λ c. search needs) (λ c κs. search needs) loop-holds step-at-requires pool-with-requires add-j
+    (λ c. search needs) (λ c κs. search needs) (λ c κs. search needs) loop-holds pool-after-requires mul-lower array-read-lower add-j
     (λ c. search needs) loop-again returns)

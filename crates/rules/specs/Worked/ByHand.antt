@@ -1,12 +1,12 @@
 -- What the worked days leave open, worked out by hand in document 01's words: a pooled final payment whose quotient is rounded and one that
 -- is its initial payment, an adjusted total that an earlier one makes up for, AGINO back over totals that rise, fall and rise, and a line that
--- is hedged in part.
+-- is hedged in part; and in document 02's where accreditations hold (F-7).
 use Prim.Native.Nat.{ℕ}
-use mathlib.Core.List.{List, [], _∷_, map}
+use mathlib.Core.List.{List, [], _∷_, _++_, map}
 use lib.ListN.{length, getD, replicate}
 use lib.IntN.{pos, negsuc}
 use Rattle.rules.specs.Fold.{five}
-use Rattle.rules.specs.Steps.{paid}
+use Rattle.rules.specs.Steps.{holdsIn, paid}
 use Rattle.rules.specs.Quantities.{agino}
 use Rattle.rules.specs.declared.Step.{Step}
 use Rattle.rules.specs.Payments.{bit, Day, stepFinal}
@@ -62,6 +62,10 @@ finalsOf claw =
     bits64 (stepFinal (poolDay claw) 1 0 0) ∷ bits64 (stepFinal (poolDay claw) 1 0 1) ∷ bits64 (stepFinal (poolDay claw) 1 1 0)
     ∷ bits64 (stepFinal (poolDay claw) 1 2 0) ∷ bits64 (stepFinal (poolDay claw) 1 3 0) ∷ []
 
+-- 1 in each schedule in which an accreditation holds
+abbrev marksOf : ℕ → List ℕ
+marksOf a = five (λ s. bit (holdsIn a s))
+
 unfoldable pub handCases : List Case
 handCases =
     -- T = -12 + 25 - 2 = 11, B = max(5, 6 + 2) = 8; 11 x 6 / 8 = 8, so -12 - 8 = -20 is above -36; 11 x 2 / 8 = 2, and -2 - 2 is below -2
@@ -76,4 +80,9 @@ handCases =
     -- K1's line is accredited, with hedge 37: its step that ends at 37 is hedged, the next one, which ends at 45, is paid
     ∷ number (bit (paid tableLine 37 0)) 0
     ∷ number (bit (paid tableLine 45 0)) 1
+    -- where accreditations hold: 0 nowhere, 1 everywhere, 32 nowhere, 33 in schedule 1, 43 = 32 + 1 + 2 + 8 in 1, 2 and 4, 48 = 32 + 16 in 5, 63 everywhere
+    ∷ record { found = marksOf 0 ++ marksOf 1; expected = replicate 5 0 ++ replicate 5 1 }
+    ∷ record { found = marksOf 32 ++ marksOf 33; expected = replicate 5 0 ++ (1 ∷ 0 ∷ 0 ∷ 0 ∷ 0 ∷ []) }
+    ∷ record { found = marksOf 43 ++ marksOf 48; expected = 1 ∷ 1 ∷ 0 ∷ 1 ∷ 0 ∷ 0 ∷ 0 ∷ 0 ∷ 0 ∷ 1 ∷ [] }
+    ∷ record { found = marksOf 63; expected = replicate 5 1 }
     ∷ []

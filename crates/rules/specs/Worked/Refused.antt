@@ -126,7 +126,20 @@ limitCases =
     ∷ number (dayFault (bytesOf twoWords)) 14
     ∷ []
 
+-- document 02, F-7: 6 on both sides of 31 | 32 and 63 | 64, and of a set whose word has a further bit (2^31 + 33); the cutter's and the view's number
+unfoldable pub accreditationCases : List Case
+accreditationCases =
+    number (dayFault (changed limitWords 19 31)) 6
+    ∷ number (dayFault (changed limitWords 19 32)) 0
+    ∷ number (dayFault (changed limitWords 19 63)) 0
+    ∷ number (dayFault (changed limitWords 19 64)) 6
+    ∷ number (dayFault (changed limitWords 19 2147483681)) 6
+    ∷ number (cutFault (drop 64 (changed limitWords 19 31))) 6
+    ∷ number (cutFault (drop 64 (changed limitWords 19 32))) 0
+    ∷ number (viewFault (changed limitWords 19 64) 0 0) 6
+    ∷ []
+
 -- all of this file, opened
 unfoldable pub refusedOpened : ℕ
-unfolding limitWords limitDay changed twoWords cutterCases answerCases refusedCases limitCases
+unfolding limitWords limitDay changed twoWords cutterCases answerCases refusedCases limitCases accreditationCases
 refusedOpened = 0

@@ -21,7 +21,7 @@ use Rattle.cutter.specs.Ends.{most-limit}
 use Rattle.step_inputs.specs.declared.inputs.Market.{Market}
 use Rattle.step_inputs.specs.declared.inputs.LineTotals.{LineTotals}
 use Rattle.step_inputs.specs.Inputs.{marketOf, totalsOf, stepWith, StepReady}
-use Rattle.step_terms.specs.Terms.{cappedIn, paidIn}
+use Rattle.step_terms.specs.Terms.{cappedIn, accreditedIn, paidRow}
 use Rattle.step_inputs.specs.Steps.{end-is, step-is, actual-most}
 
 pub market-is : (d p m : List ℕ) (c k : ℕ) → p ≡ five (layout.marketPrice d) → m ≡ five (layout.capMark d) → c ≡ layout.priceCap d → k ≡ layout.clawback d
@@ -58,18 +58,18 @@ module _ (t : List (List ℕ)) (w : List ℕ) (z : lineFaultWith t w ≡ 0) wher
   narrowed : (f : ℕ → ℕ) (q p : List ℕ) → q ≡ five (at p) → p ≡ five f → q ≡ five f
   narrowed f q p e h = e ∙ ap (λ (x : List ℕ). five (at x)) h
 
-  pub totals-are : (sd ac hg v : ℕ) (p p′ o o′ : List ℕ)
-      → sd ≡ layout.side w → ac ≡ layout.accreditation w → hg ≡ layout.hedge w
+  pub totals-are : (sd ac hg v : ℕ) (m p p′ o o′ : List ℕ)
+      → sd ≡ layout.side w → ac ≡ layout.accreditation w → m ≡ five (accreditedIn ac) → hg ≡ layout.hedge w
       → p ≡ five (pricingTotal w) → p′ ≡ five (at p) → o ≡ five (tableTotal t) → o′ ≡ five (at o) → v ≡ tableActual t w
-      → _≡_ {A = LineTotals} (record { side = sd; accreditation = ac; hedge = hg; pricing = p′; operating = o′; actual = v }) (totalsOf t w)
+      → _≡_ {A = LineTotals} (record { side = sd; accredited = m; hedge = hg; pricing = p′; operating = o′; actual = v }) (totalsOf t w)
   unfolding totalsOf
-  totals-are sd ac hg v p p′ o o′ a b c d e f g h =
+  totals-are sd ac hg v m p p′ o o′ a b q c d e f g h =
       let pe : p′ ≡ five (pricingTotal w) = narrowed (pricingTotal w) p′ p e d in
       let oe : o′ ≡ five (tableTotal t) = narrowed (tableTotal t) o′ o g f in
-      rw (a, b, c, pe, oe, h)
+      rw (a, q, b, c, pe, oe, h)
 
 pub step-from-is : (m : Market) (t : LineTotals) (l u : ℕ) (p f q r : List ℕ)
-    → q ≡ five (cappedIn (m .mark) (m .cap) p) → r ≡ five (paidIn (t .accreditation) (t .hedge) u)
+    → q ≡ five (cappedIn (m .mark) (m .cap) p) → r ≡ paidRow (t .accredited) (t .hedge) u
     → _≡_ {A = Step} (record { side = t .side; lower = l; upper = u; price = q; flag = f; market = m .price; paid = r; pricing = t .pricing; operating = t .operating; actual = t .actual }) (stepWith m t l u p f)
 unfolding stepWith
 step-from-is m t l u p f q r a b = rw (a, b)

@@ -2,11 +2,10 @@
 use Prim.Native.Nat.{ℕ, zero, suc, _+_, _-_, _≤_, _<_, min}
 use native.Mathlib.Nat.{zero-mul}
 use native.Mathlib.Omega.{arith}
-use mathlib.Core.Path.{_≡_, refl, sym, _∙_, ap, subst}
-use mathlib.Core.Bool.{Bool, true, false, cond, _||_, false≢true}
+use mathlib.Core.Path.{_≡_, sym, _∙_, ap, subst}
+use mathlib.Core.Bool.{Bool, true, false, cond}
 use mathlib.Core.List.{List}
-use lib.Dec.{leb}
-use borrow.Author.Tests.{eqb-true, ne-eqb, leb-true, le-leb, lt-leb}
+use borrow.Author.Tests.{eqb-true, ne-eqb}
 use Rattle.rules.specs.Fold.{before, five, at, mostTo}
 use Rattle.rules.specs.Matching.{earlier, rise, fall}
 use Rattle.rules.specs.Quantities.{allocated, leastFrom, beyond, msiqFrom, msiq, constrained}
@@ -20,7 +19,7 @@ use Rattle.step_payments.specs.Parts.{changeOn, initial-plus, initial-minus}
 use Rattle.step_payments.specs.Amounts.{plusOf, minusOf, moneyOf}
 use Rattle.step_pool.specs.declared.pool_amounts.SidePool.{SidePool}
 use Rattle.step_pool.specs.declared.pool_amounts.Changes.{Changes}
-use Rattle.step_pool.specs.Amounts.{changesOn, stepPool, noPool, noMoney, poolSum, moneySum, poolAt, finalOn, allZero, isUnconstrained, Kept}
+use Rattle.step_pool.specs.Amounts.{changesOn, stepPool, noPool, noMoney, poolSum, moneySum, poolAt, finalOn, allZero, Kept}
 use Rattle.step_pool.specs.Parts.{rise-le, fall-le, off-initial, money-same}
 use Rattle.step_pool.proofs.pool_amounts.Settling.{of-plus, of-minus, final-pays}
 use Rattle.step_pool.proofs.pool_amounts.Kept.{kept-plus, kept-minus, kept-differs, final-kept}
@@ -99,22 +98,12 @@ within-pricing x h s l =
     let q = msiq-least (x .side) (x .price) (x .market) (five (pricingOn x)) (x .upper - x .lower) (priced-on x h) s (4 - s) (omega arith) in
     omega (arith, at-five (constrainedOn x) 0 s l, at-five (operatingOn x) 0 s l, at-five (msiqOn x) 0 s l)
 
-pub within-is : (x : Step) (n : ℕ) → n ≡ leastFrom (x .pricing) 0 4 → x .upper ≤ n → true ≡ isUnconstrained x
-unfolding isUnconstrained
-within-is x n e h = let k : x .upper ≤ leastFrom (x .pricing) 0 4 = omega arith in rw (le-leb _ _ k)
+-- a step that lies within every pricing total, and one past every operating total
+pub idle-within : (x : Step) → x .upper ≤ leastFrom (x .pricing) 0 4 → Idle x
+idle-within x h = none-on x (within-pricing x h)
 
-pub past-is : (x : Step) (n m : ℕ) → n ≡ leastFrom (x .pricing) 0 4 → n < x .upper → m ≡ mostTo 5 (at (x .operating)) → leb m (x .lower) ≡ isUnconstrained x
-unfolding isUnconstrained
-past-is x n m e h f = let k : leastFrom (x .pricing) 0 4 < x .upper = omega arith in rw (lt-leb _ _ k, f)
-
-pub idle-unconstrained : (x : Step) → true ≡ isUnconstrained x → Idle x
-unfolding isUnconstrained
-idle-unconstrained x h = go (leb (x .upper) (leastFrom (x .pricing) 0 4)) (leb (mostTo 5 (at (x .operating))) (x .lower)) refl refl h
-  where
-    go : (t u : Bool) → leb (x .upper) (leastFrom (x .pricing) 0 4) ≡ t → leb (mostTo 5 (at (x .operating))) (x .lower) ≡ u → true ≡ t || u → Idle x
-    go true u e f h = none-on x (within-pricing x (leb-true _ _ e))
-    go false true e f h = none-on x (past-operating x (leb-true _ _ f))
-    go false false e f h = absurd (false≢true (sym h))
+pub idle-past : (x : Step) → mostTo 5 (at (x .operating)) ≤ x .lower → Idle x
+idle-past x h = none-on x (past-operating x h)
 
 module _ (x : Step) (k : Idle x) where
   none-paid : (s : ℕ) → s < 5 → plusOf (initial x) s ≡ 0

@@ -1,9 +1,9 @@
--- `step_pool::adding::pool_with` meets its contract: by whether the step adds anything, and whether it takes something back.
+-- `step_pool::adding::pool_with` meets its contract: by whether the step is paid, and whether it takes something back.
 use mathlib.Core.Path.{sym, _∙_, ap}
 use borrow.Author.Needs.{needs}
 use Rattle.step_pool.specs.Amounts.{poolSum}
 use Rattle.step_pool.proofs.pool_amounts.Kept.{kept-row}
-use Rattle.step_pool.proofs.pool_amounts.Idle.{idle-unpaid, idle-unconstrained, pool-idle}
+use Rattle.step_pool.proofs.pool_amounts.Idle.{idle-unpaid, pool-idle}
 use Rattle.step_pool.proofs.pool_amounts.Settling.{of-minus}
 use Rattle.step_pool.proofs.adding.pool_with.Statement.{statement}
 use Rattle.step_pool.proofs.adding.pool_with.Tie as tie
@@ -14,53 +14,47 @@ returns c =
     pool-idle (at-start .args .x) (idle-unpaid (at-start .args .x) (sym (c .if1 .taken) ∙ c .before .unpaid .ensures)) _
     (at-start .pre .2)
 
-returns-2 : tie.Need-returns-2
-returns-2 c =
-    let at-start = c .before .before .before .before in
-    pool-idle (at-start .args .x)
-    (idle-unconstrained (at-start .args .x) (sym (c .if2 .taken) ∙ c .before .unconstrained .ensures)) _ (at-start .pre .2)
-
 changes-on-requires : tie.Need-changes-on-requires
 changes-on-requires c κs = (c .before .constrained-on .ensures, c .rates .ensures)
 
 kept-pool-requires : tie.Need-kept-pool-requires
 kept-pool-requires c κs =
     let after-changes-on = c .before .before .before in
-    let at-start = after-changes-on .before .before .before .before .before .before .before in
+    let at-start = after-changes-on .before .before .before .before .before in
     let x = at-start .args .x in
     let kept-row′ = kept-row x _ (of-minus x _ (after-changes-on .changes-on .ensures))
-    (sym (c .if3 .taken) ∙ c .before .all-zero .ensures) in
+    (sym (c .if2 .taken) ∙ c .before .all-zero .ensures) in
     (after-changes-on .changes-on .ensures, kept-row′)
 
 pool-add-requires : tie.Need-pool-add-requires
 pool-add-requires c κs =
-    let at-start = c .before .before .before .before .before .before .before .before .before .before .before in
+    let at-start = c .before .before .before .before .before .before .before .before .before in
     rw (c .kept-pool .ensures) (at-start .pre .1)
 
-returns-3 : tie.Need-returns-3
-returns-3 c =
-    let at-start = c .before .before .before .before .before .before .before .before .before .before .before .before in
+returns-2 : tie.Need-returns-2
+returns-2 c =
+    let at-start = c .before .before .before .before .before .before .before .before .before .before in
     c .pool-add .ensures ∙ ap (poolSum (at-start .args .p)) (c .before .kept-pool .ensures)
 
 full-pool-requires : tie.Need-full-pool-requires
 full-pool-requires c κs =
     let after-constrained-on = c .before .before .before .before .before in
-    let at-start = after-constrained-on .before .before .before .before .before in
+    let at-start = after-constrained-on .before .before .before in
     (at-start .pre .0, after-constrained-on .constrained-on .ensures, c .before .before .before .changes-on .ensures)
 
 pool-add-requires-2 : tie.Need-pool-add-requires-2
 pool-add-requires-2 c κs =
-    let at-start = c .before .before .before .before .before .before .before .before .before .before .before in
+    let at-start = c .before .before .before .before .before .before .before .before .before in
     rw (c .full-pool .ensures) (at-start .pre .1)
 
-returns-4 : tie.Need-returns-4
-returns-4 c =
-    let at-start = c .before .before .before .before .before .before .before .before .before .before .before .before in
+returns-3 : tie.Need-returns-3
+returns-3 c =
+    let at-start = c .before .before .before .before .before .before .before .before .before .before in
     c .pool-add2 .ensures ∙ ap (poolSum (at-start .args .p)) (c .before .full-pool .ensures)
 
 pub pool-with-spec : {M : Type 1} → statement M
 pool-with-spec =
     tie.close
-    (tie.spec (λ c κs. search needs) returns (λ c κs. search needs) returns-2 (λ c κs. search needs)
-    (λ c κs. search needs) changes-on-requires (λ c κs. search needs) kept-pool-requires pool-add-requires returns-3
-    full-pool-requires pool-add-requires-2 returns-4)
+    (tie.spec (λ c κs. search needs) returns (λ c κs. search needs) (λ c κs. search needs) changes-on-requires
+    (λ c κs. search needs) kept-pool-requires pool-add-requires returns-2 full-pool-requires pool-add-requires-2
+    returns-3)

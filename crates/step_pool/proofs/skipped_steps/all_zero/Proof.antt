@@ -1,4 +1,4 @@
--- `step_pool::skipped_steps::none` meets its contract: the greatest of the five is 0.
+-- `step_pool::skipped_steps::all_zero` meets its contract: the greatest of the five is 0.
 use borrow.Author.Needs.{needs}
 use Rattle.step_pool.proofs.pool_amounts.Kept.{none-is}
 use Rattle.step_pool.proofs.skipped_steps.all_zero.Statement.{statement}
