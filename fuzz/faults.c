@@ -12,36 +12,61 @@ uint32_t real_mewikofu_view(const uint8_t *, size_t, size_t, size_t, Words, Word
 uint32_t real_mewikofu_line_part(const uint8_t *, size_t, size_t, size_t *, size_t *);
 uint32_t real_mewikofu_cut(const uint8_t *, size_t, Words, Words, Words, uint64_t *, Words);
 
-/* A copy of the bytes in which each line from `at` on has the accreditation that `changed` makes of its own; none of longer bytes than a day's. */
-static inline const uint8_t *with_accreditation(const uint8_t *bytes, size_t length, size_t at, uint32_t (*changed)(uint32_t))
+/* A copy of the bytes with each line from `at` on changed; none of longer bytes than a day's. */
+static inline const uint8_t *with_lines(const uint8_t *bytes, size_t length, size_t at, void (*change)(uint8_t *line))
 {
     static _Thread_local uint8_t copy[MEWIKOFU_DAY_BYTES(MEWIKOFU_MOST_LINES)];
     if (length > sizeof copy)
         return bytes;
     memcpy(copy, bytes, length);
-    for (; at + MEWIKOFU_LINE_BYTES <= length; at += MEWIKOFU_LINE_BYTES) {
-        uint32_t word;
-        memcpy(&word, copy + at + MEWIKOFU_ACCREDITATION, sizeof word);
-        word = changed(word);
-        memcpy(copy + at + MEWIKOFU_ACCREDITATION, &word, sizeof word);
-    }
+    for (; at + MEWIKOFU_LINE_BYTES <= length; at += MEWIKOFU_LINE_BYTES)
+        change(copy + at);
     return copy;
 }
 
-static inline uint32_t set_as_1(uint32_t word)
+static inline uint32_t word_at(const uint8_t *at)
 {
-    return word >= 33 && word <= 63 ? 1 : word;
+    uint32_t word;
+    memcpy(&word, at, sizeof word);
+    return word;
 }
 
-static inline uint32_t low_bits(uint32_t word)
+static inline void set_as_1(uint8_t *line)
 {
-    return word & 63;
+    uint32_t word = word_at(line + MEWIKOFU_ACCREDITATION);
+    word = word >= 33 && word <= 63 ? 1 : word;
+    memcpy(line + MEWIKOFU_ACCREDITATION, &word, sizeof word);
+}
+
+static inline void low_bits(uint8_t *line)
+{
+    uint32_t word = word_at(line + MEWIKOFU_ACCREDITATION) & 63;
+    memcpy(line + MEWIKOFU_ACCREDITATION, &word, sizeof word);
+}
+
+/* A bid within a line: count, 11 breaks, 11 prices. */
+#define BID_BYTES 92
+#define BID_AT(s) (20 + BID_BYTES * (size_t)(s))
+#define PRICES 48
+
+static inline int is_pulled(const uint8_t *line, size_t s)
+{
+    return word_at(line + BID_AT(s)) == 0;
+}
+
+static inline void bid_before(uint8_t *line)
+{
+    for (size_t s = 1; s < MEWIKOFU_SCHEDULES; s++)
+        if (is_pulled(line, s))
+            memcpy(line + BID_AT(s), line + BID_AT(s - 1), BID_BYTES);
 }
 
 uint32_t mewikofu_settle(const uint8_t *day, size_t length, uint8_t *book, size_t room)
 {
     if (FAULT == 15)
-        day = with_accreditation(day, length, MEWIKOFU_LINES_AT, set_as_1); /* a set of schedules is taken for all of them */
+        day = with_lines(day, length, MEWIKOFU_LINES_AT, set_as_1); /* a set of schedules is taken for all of them */
+    if (FAULT == 18)
+        day = with_lines(day, length, MEWIKOFU_LINES_AT, bid_before); /* a pulled bid is taken for the one before it */
     uint32_t number = real_mewikofu_settle(day, length, book, room);
     if (FAULT == 3 && number == MEWIKOFU_BOOK_SHORT && room > 95)
         book[95] ^= 1; /* a refused book is written to */
@@ -71,7 +96,9 @@ uint32_t mewikofu_view(const uint8_t *day, size_t length, size_t line, size_t st
     if (FAULT == 10)
         step = (uint32_t)step; /* a step above 2^32 is taken for a lower one */
     if (FAULT == 16)
-        day = with_accreditation(day, length, MEWIKOFU_LINES_AT, set_as_1); /* a set of schedules is taken for all of them */
+        day = with_lines(day, length, MEWIKOFU_LINES_AT, set_as_1); /* a set of schedules is taken for all of them */
+    if (FAULT == 19)
+        day = with_lines(day, length, MEWIKOFU_LINES_AT, bid_before); /* a pulled bid is taken for the one before it */
     uint32_t number = real_mewikofu_view(day, length, line, step, end, width, actual, price, flag, operating, pricing, agino, msiq, constrained,
                                          matches, initial, revised, modified, finals);
     if (FAULT == 6 && number != MEWIKOFU_ACCEPTED)
@@ -95,11 +122,18 @@ uint32_t mewikofu_cut(const uint8_t *line, size_t length, Words count, Words end
 {
     uint32_t missing_before = missing[4];
     if (FAULT == 17)
-        line = with_accreditation(line, length, 0, low_bits); /* an accreditation above 63 is taken for a lower one */
+        line = with_lines(line, length, 0, low_bits); /* an accreditation above 63 is taken for a lower one */
     uint32_t number = real_mewikofu_cut(line, length, count, ends, prices, flags, missing);
     if (FAULT == 7 && number != MEWIKOFU_ACCEPTED)
         missing[4] = missing_before; /* a place is left unwritten where the line is refused */
     if (FAULT == 14 && *count == MEWIKOFU_MOST_STEPS)
         ends[55]--; /* the 56th end is one less */
+    for (size_t s = 1; number == MEWIKOFU_ACCEPTED && s < MEWIKOFU_SCHEDULES; s++) {
+        if (FAULT == 20 && is_pulled(line, s))
+            for (size_t k = 0; k < *count; k++) /* the last price of the first bid, not of the nearest */
+                prices[MEWIKOFU_PRICE_AT(s, k)] = word_at(line + BID_AT(0) + PRICES + 4 * (word_at(line + BID_AT(0)) - 1));
+        if (FAULT == 21 && is_pulled(line, s))
+            flags[s] |= (uint64_t)1 << *count; /* a flag past the count */
+    }
     return number;
 }

@@ -43,7 +43,7 @@ const char *mewikofu_version(void);
 #define MEWIKOFU_MARKET_PRICE 4          /* market: a market price or APC > 10,000,000 */
 #define MEWIKOFU_MARKET_MARK 5           /* market: a cap mark or the clawback switch > 1 */
 #define MEWIKOFU_SIDE_OR_ACCREDITATION 6 /* each line: side > 1, or accreditation 2 to 31 or > 63 */
-#define MEWIKOFU_BID_COUNT 7             /* each line: a bid's count = 0 or > 11 */
+#define MEWIKOFU_BID_COUNT 7             /* each line: a bid's count = 0 in schedule 1, or > 11 */
 #define MEWIKOFU_BREAKS 8                /* each line: a bid's break <= the one before (first: <= 0), or > 200,000,000 */
 #define MEWIKOFU_PRICES 9                /* each line: a bid's price > 10,000,000, or < the one before (withdrawal: > the one before) */
 #define MEWIKOFU_UNUSED_SLOT 10          /* each line: a break or price past the bid's count isn't 0 */
@@ -67,7 +67,7 @@ static inline const char *mewikofu_words(uint32_t number)
         "a market price or the administered price cap is above 10,000,000 price units",
         "a cap mark or the clawback switch is above 1",
         "a line's side is above 1, or its accreditation is 2 to 31 or above 63",
-        "a bid's count is 0 or above 11",
+        "a bid's count is 0 in schedule 1, or above 11",
         "a bid's breaks aren't strictly rising from above 0, or one is above 200,000,000 MJ",
         "a bid's price is above 10,000,000 price units, or falls (withdrawal: rises)",
         "an unused slot of a bid isn't 0",
@@ -144,7 +144,7 @@ uint32_t mewikofu_settle(const uint8_t *day, size_t length, uint8_t *book, size_
 
 /* The step view: every figure of step `step` of line `line` (both from 0). Answers the number; header, market, each line, all lines and view are
    checked, in this order. Writes every lent place: all are 0 where the number isn't. By schedule:
-   price      capped          flag       1 where the bid has no price for the step
+   price      capped          flag       1 where the bid has no price for the step, or was pulled
    operating  O               pricing    E
    agino      AGINO           msiq       MSIQ           constrained  C
    initial, revised, modified, finals    payments, in $0.0000001
@@ -166,6 +166,8 @@ uint32_t mewikofu_line_part(const uint8_t *day, size_t length, size_t k, size_t 
    prices   their uncapped prices, at MEWIKOFU_PRICE_AT
    flags    for each schedule a word of missing-price flags, bit k for step k from 0
    missing  for each schedule how many flags are set
+   In a schedule whose bid was pulled (its count is 0) every step is flagged and has the last price of the nearest earlier bid that wasn't pulled. A bid with
+   steps has a price for the line's first step, so bit 0 of a schedule's flags says whether its bid was pulled.
    Places past the count are 0. Where the number isn't 0 all places are 0. */
 uint32_t mewikofu_cut(const uint8_t *line, size_t length, uint32_t *count, uint32_t ends[MEWIKOFU_MOST_STEPS],
                       uint32_t prices[MEWIKOFU_SCHEDULES * MEWIKOFU_MOST_STEPS], uint64_t flags[MEWIKOFU_SCHEDULES],

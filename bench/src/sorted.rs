@@ -52,6 +52,10 @@ fn put_ends(line: Line, ends: &mut [u32; MOST_STEPS]) -> usize {
 
 /// Answers the word of flags.
 fn put_prices(line: Line, bid: usize, ends: &[u32], prices: &mut [u32; MOST_STEPS]) -> u64 {
+    if line.is_pulled(bid) {
+        prices[..ends.len()].fill(line.last_price(bid));
+        return (1 << ends.len()) - 1;
+    }
     let last = line.count(bid) - 1;
     let mut slot = 0;
     let mut flags = 0;

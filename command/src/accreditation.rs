@@ -2,7 +2,7 @@
 
 use crate::form::{read_schedules, NONE};
 use crate::layout::{BySchedule, SCHEDULES};
-use crate::lists::{number_words, ranges};
+use crate::lists::{ranges, schedule_words};
 use mewikofu::Accreditation;
 
 type Read<T> = Result<T, String>;
@@ -70,7 +70,6 @@ pub fn words(accreditation: Accreditation) -> String {
     };
     match &set[..] {
         [] => "accredited in no schedule".to_string(),
-        [one] => format!("accredited in schedule {one}"),
-        several => format!("accredited in schedules {}", number_words(several)),
+        set => format!("accredited in {}", schedule_words(set)),
     }
 }

@@ -58,6 +58,16 @@ impl Line {
         self.accreditation.holds_in(s)
     }
 
+    /// Whether the bid of schedule s, from 0, was pulled. A bid with steps has a price for the line's first step.
+    pub fn is_pulled(&self, s: usize) -> bool {
+        self.steps.first().is_some_and(|step| step.flag[s] == 1)
+    }
+
+    /// The schedules, from 1, whose bids were pulled.
+    pub fn pulled(&self) -> Vec<usize> {
+        (1..=SCHEDULES).filter(|s| self.is_pulled(s - 1)).collect()
+    }
+
     pub fn is_hedged(&self, step: &View) -> bool {
         step.end <= self.hedge
     }

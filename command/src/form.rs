@@ -1,14 +1,24 @@
 //! The text form: its sections, their keys, and the words of the day file that each key gives.
 
 use crate::layout::*;
+use crate::output::Format;
 
 /// A text has at most so many lines, so that its file is within the bytes that the programs read.
 pub const MOST_TEXT_LINES: usize = 99;
 
 const HEADER_WORDS: usize = MARKET_OFFSET / 4;
 
-/// What stands for a bid without steps, and for a set without schedules.
+/// What stands for a bid without steps, which is a pulled one, and for a set without schedules.
 pub const NONE: &str = "none";
+
+/// How a pulled bid is written, to stand after a message on the bid of a schedule, from 0; nothing where that can't be pulled.
+pub fn pulled_hint(bid: usize, format: Format) -> String {
+    match (can_be_pulled(bid), format) {
+        (false, _) => String::new(),
+        (true, Format::Json) => "; a pulled bid is []".to_string(),
+        (true, _) => format!("; a pulled bid is '{NONE}'"),
+    }
+}
 
 #[derive(Clone, Copy, Debug, PartialEq, Eq)]
 pub enum Section {

@@ -13,6 +13,11 @@ pub const PRICE_LIMIT: u32 = 10_000_000;
 pub const BID_SLOTS: usize = 11;
 pub const BID_WORDS: usize = 1 + 2 * BID_SLOTS;
 
+/// Whether the bid of a schedule, from 0, can be pulled: its count is then 0.
+pub const fn can_be_pulled(bid: usize) -> bool {
+    bid > 0
+}
+
 /// Byte places of the day file.
 pub const MARKET_OFFSET: usize = 16;
 pub const LINES_OFFSET: usize = 64;

@@ -38,3 +38,31 @@ pub fn ranges(numbers: &[usize], between: &str) -> Vec<String> {
 pub fn number_words(numbers: &[usize]) -> String {
     joined(&ranges(numbers, " to "))
 }
+
+/// `schedule 3`, `schedules 1 and 3 to 5`.
+pub fn schedule_words(schedules: &[usize]) -> String {
+    let name = if schedules.len() == 1 {
+        "schedule"
+    } else {
+        "schedules"
+    };
+    format!("{name} {}", number_words(schedules))
+}
+
+/// `bid of schedule 3 was pulled`, `bids of schedules 3 to 5 were pulled`.
+pub fn pulled_words(schedules: &[usize]) -> String {
+    let (bids, were) = if schedules.len() == 1 {
+        ("bid", "was")
+    } else {
+        ("bids", "were")
+    };
+    format!("{bids} of {} {were} pulled", schedule_words(schedules))
+}
+
+/// ` The bid of schedule 3 was pulled.`, to stand after other sentences; nothing where none was.
+pub fn pulled_sentence(schedules: &[usize]) -> String {
+    match schedules {
+        [] => String::new(),
+        pulled => format!(" The {}.", pulled_words(pulled)),
+    }
+}

@@ -5,6 +5,7 @@ use crate::amounts::{grouped, price};
 use crate::figures::Totals;
 use crate::input::Input;
 use crate::layout::*;
+use crate::lists::pulled_words;
 use crate::outcome::{Problem, Result};
 use crate::values::counted;
 use mewikofu::{Accreditation, Refusal};
@@ -350,32 +351,31 @@ impl LineFaults<'_> {
         }
     }
 
-    /// M. Breaks rise, so a bid's greatest is its last.
+    /// M. Breaks rise, so a bid's greatest is its last; a pulled bid has none.
     fn greatest_break(&self) -> u32 {
-        let last = |bid| self.word(break_place(bid, self.count(bid) - 1));
+        let last = |bid| {
+            let slot = self.count(bid).checked_sub(1);
+            slot.map_or(0, |slot| self.word(break_place(bid, slot)))
+        };
         (0..SCHEDULES).map(last).fold(0, u32::max)
+    }
+
+    /// M as a limit, and which bids aren't in it.
+    fn greatest_break_words(&self, most: u32) -> String {
+        let pulled: Vec<usize> = (1..=SCHEDULES).filter(|s| self.count(s - 1) == 0).collect();
+        let pulled = match &pulled[..] {
+            [] => String::new(),
+            pulled => format!(" (the {})", pulled_words(pulled)),
+        };
+        let most = number(most);
+        format!("the most is the greatest break of its bids, {most} MJ{pulled}")
     }
 
     /// Refusals 7 to 10.
     fn find_in_bid(&mut self, bid: usize) {
         let count = self.count(bid);
-        let schedule = Some(bid + 1);
-        if !(1..=BID_SLOTS).contains(&count) {
-            let fault = Fault {
-                number: 7,
-                schedule,
-                value: count as u64,
-                limit: Some(BID_SLOTS as u64),
-                ..Fault::default()
-            };
-            return self.put(
-                fault,
-                format!(
-                    "bid of schedule {}: its count is {}; it must be 1 to 11",
-                    bid + 1,
-                    number(count as u64)
-                ),
-            );
+        if count > BID_SLOTS || (count == 0 && !can_be_pulled(bid)) {
+            return self.put_count(bid, count);
         }
         let mut last = 0;
         for slot in 0..count {
@@ -388,29 +388,55 @@ impl LineFaults<'_> {
             self.find_price(bid, slot, before);
         }
         for slot in count..BID_SLOTS {
-            for (place, name) in [
-                (break_place(bid, slot), "break"),
-                (price_place(bid, slot), "price"),
-            ] {
-                let value = self.word(place);
-                if value != 0 {
-                    let fault = Fault {
-                        number: 10,
-                        schedule,
-                        slot: Some(slot + 1),
-                        value: value.into(),
-                        limit: Some(0),
-                        ..Fault::default()
-                    };
-                    let at = slot_words(bid, slot);
-                    self.put(
-                        fault,
-                        format!(
-                            "{at}: {name} {}; the bid's count is {count}, so it must be 0",
-                            number(value)
-                        ),
-                    );
-                }
+            self.find_unused(bid, slot, count);
+        }
+    }
+
+    /// Refusal 7.
+    fn put_count(&mut self, bid: usize, count: usize) {
+        let fault = Fault {
+            number: 7,
+            schedule: Some(bid + 1),
+            value: count as u64,
+            limit: Some(BID_SLOTS as u64),
+            ..Fault::default()
+        };
+        let pulled = match (can_be_pulled(bid), count) {
+            (true, _) => ", or 0 for a pulled bid",
+            (false, 0) => ", since only bids of the schedules 2 to 5 can be pulled",
+            (false, _) => "",
+        };
+        let (schedule, count) = (bid + 1, number(count as u64));
+        self.put(
+            fault,
+            format!("bid of schedule {schedule}: its count is {count}; it must be 1 to {BID_SLOTS}{pulled}"),
+        );
+    }
+
+    /// Refusal 10: break and price of a slot past the count.
+    fn find_unused(&mut self, bid: usize, slot: usize, count: usize) {
+        let pulled = if count == 0 { " (a pulled bid)" } else { "" };
+        for (place, name) in [
+            (break_place(bid, slot), "break"),
+            (price_place(bid, slot), "price"),
+        ] {
+            let value = self.word(place);
+            if value != 0 {
+                let fault = Fault {
+                    number: 10,
+                    schedule: Some(bid + 1),
+                    slot: Some(slot + 1),
+                    value: value.into(),
+                    limit: Some(0),
+                    ..Fault::default()
+                };
+                let (at, value) = (slot_words(bid, slot), number(value));
+                self.put(
+                    fault,
+                    format!(
+                        "{at}: {name} {value}; the bid's count is {count}{pulled}, so it must be 0"
+                    ),
+                );
             }
         }
     }
@@ -506,13 +532,7 @@ impl LineFaults<'_> {
     fn find_hedge(&mut self, most: u32) {
         let hedge = self.word(HEDGE);
         let (limit, words) = match self.word(SIDE) {
-            0 => (
-                most,
-                format!(
-                    "the most is the greatest break of its bids, {} MJ",
-                    number(most)
-                ),
-            ),
+            0 => (most, self.greatest_break_words(most)),
             1 => (0, "on a withdrawal it must be 0".to_string()),
             _ => return,
         };
@@ -542,10 +562,7 @@ impl LineFaults<'_> {
                         limit: Some(most.into()),
                         ..Fault::default()
                     };
-                    let limit = format!(
-                        "the most is the greatest break of its bids, {} MJ",
-                        number(most)
-                    );
+                    let limit = self.greatest_break_words(most);
                     self.put(
                         fault,
                         format!(

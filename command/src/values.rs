@@ -2,9 +2,9 @@
 
 use crate::accreditation::{read_set, write_set};
 use crate::amounts::PRICE_PLACES;
-use crate::form::{Field, Kind, NONE};
+use crate::form::{pulled_hint, Field, Kind, NONE};
 use crate::layout::BID_SLOTS;
-use crate::output::Unit;
+use crate::output::{Format, Unit};
 use mewikofu::Accreditation;
 
 type Read<T> = Result<T, String>;
@@ -12,7 +12,7 @@ type Read<T> = Result<T, String>;
 /// The words of a key's values.
 pub fn read_words(field: &Field, text: &str) -> Read<Vec<u32>> {
     if field.kind == Kind::Bid {
-        return read_bid(&field.key(), text);
+        return read_bid(field, text);
     }
     let values: Vec<&str> = match field.kind {
         // A set may have spaces in it.
@@ -90,14 +90,17 @@ fn read_dollars(text: &str, dollars: &str) -> Read<u32> {
     digits.parse().map_err(|_| too_large(text))
 }
 
+/// What a bid's step looks like.
+const STEP: &str = "break@price, such as 1000@20000";
+
 /// Rows of break@price, or `none`: the count, 11 breaks and 11 prices.
-fn read_bid(key: &str, text: &str) -> Read<Vec<u32>> {
+fn read_bid(field: &Field, text: &str) -> Read<Vec<u32>> {
+    let key = field.key();
+    let hint = pulled_hint(field.schedule.map_or(0, |s| s - 1), Format::Text);
     let spaced = text.replace('@', " @ ");
     let tokens: Vec<&str> = spaced.split_whitespace().collect();
     if tokens.is_empty() {
-        return Err(format!(
-            "'{key}' has no value; a bid without steps is {NONE}"
-        ));
+        return Err(format!("'{key}' has no value; a step is {STEP}{hint}"));
     }
     let tokens = if tokens == [NONE] { &[] } else { &tokens[..] };
     let count = tokens.len().div_ceil(3);
@@ -108,8 +111,9 @@ fn read_bid(key: &str, text: &str) -> Read<Vec<u32>> {
     words[0] = count as u32;
     for (slot, step) in tokens.chunks(3).enumerate() {
         let &[end, "@", price] = step else {
-            let step = step.join(" ");
-            return Err(format!("'{step}' is not break@price, such as 1000@20000"));
+            // A single word may be meant for a pulled bid.
+            let hint = if tokens.len() == 1 { &hint } else { "" };
+            return Err(format!("'{}' is not {STEP}{hint}", step.join(" ")));
         };
         words[1 + slot] = read_number(end)?;
         words[1 + BID_SLOTS + slot] = read_price(price)?;

@@ -1,7 +1,7 @@
 //! One input through the proved archive and the reference, every answer and every lent byte compared.
 
 use mewikofu::raw;
-use reference::layout::{book_length, Line, LINE_BYTES, MOST_LINES};
+use reference::layout::{book_length, Line, LINE_BYTES, MOST_LINES, SCHEDULES};
 use reference::line_part::line_part;
 use reference::matching::pair;
 use std::ops::Range;
@@ -20,16 +20,23 @@ pub struct Call {
     pub part: usize,
 }
 
-/// The numbers answered.
+/// What accepted views and cuts are to meet. Some final payment of a viewed step is a revised one less a share of T; is
+/// negative though its line isn't accredited in the schedules of the matched rises; is negative where the bid is pulled.
+pub const MET: [&str; 5] = [
+    "views with a share of T",
+    "views with a charge for unpaid rises",
+    "views with a charge where the bid is pulled",
+    "views of a line with a pulled bid",
+    "cuts of a line with a pulled bid",
+];
+
+/// The numbers answered, and which of `MET` the answers are.
 pub struct Numbers {
     pub settle: u32,
     pub cut: u32,
     pub view: u32,
     pub part: u32,
-    /// Some final payment of the viewed step is a revised one less a share of T.
-    pub shared: bool,
-    /// Some final payment of it is negative though its line isn't accredited in the schedules of the matched rises.
-    pub charged: bool,
+    pub met: [bool; MET.len()],
 }
 
 pub struct Compare {
@@ -56,13 +63,17 @@ impl Compare {
         self.day.clear();
         self.day.extend(day);
         let (view, figures) = self.view(day, call.line, call.step)?;
+        let (cut, steps) = self.cut(day, call.cut.clone())?;
+        let viewed = Line::new(line_part(day, call.line as u64)).filter(|_| view == 0);
+        let lent = Line::new(&day[call.cut.clone()]).filter(|_| cut == 0);
+        viewed.map_or(Ok(()), |line| check_view(line, &figures))?;
+        lent.map_or(Ok(()), |line| check_cut(line, &steps))?;
         let numbers = Numbers {
             settle: self.settle(day, call.room)?,
-            cut: self.cut(day, call.cut.clone())?,
+            cut,
             view,
             part: self.part(day, call.part)?,
-            shared: has_share(&figures),
-            charged: has_charge_for_unpaid(line_part(day, call.line as u64), &figures),
+            met: met(viewed, &figures, lent),
         };
         match self.day == day {
             true => Ok(numbers),
@@ -83,7 +94,7 @@ impl Compare {
         Ok(number)
     }
 
-    fn cut(&mut self, day: &[u8], range: Range<usize>) -> Answer {
+    fn cut(&mut self, day: &[u8], range: Range<usize>) -> Result<(u32, mewikofu::Cut), String> {
         let mut cut = mewikofu::Cut {
             count: 0xAAAA_AAAA,
             ends: [0xAAAA_AAAA; 56],
@@ -99,7 +110,7 @@ impl Compare {
         same("cut's prices", &cut.prices, &expected.prices)?;
         same("cut's flags", &cut.flags, &expected.flags)?;
         same("cut's missing", &cut.missing, &expected.missing)?;
-        Ok(number)
+        Ok((number, cut))
     }
 
     fn view(
@@ -169,17 +180,48 @@ impl Compare {
     }
 }
 
+/// Which of `MET` hold, of the line viewed and of the line cut where they weren't refused.
+fn met(viewed: Option<Line>, view: &mewikofu::View, cut: Option<Line>) -> [bool; MET.len()] {
+    let has_pulled = |line: Option<Line>| line.is_some_and(|line| pulled(line).next().is_some());
+    [
+        has_share(view),
+        viewed.is_some_and(|line| has_charge_for_unpaid(line, view)),
+        viewed.is_some_and(|line| pulled(line).any(|s| view.finals[s] < 0)),
+        has_pulled(viewed),
+        has_pulled(cut),
+    ]
+}
+
 fn has_share(view: &mewikofu::View) -> bool {
     let own = |s| [view.initial, view.revised, view.modified].map(|kind| kind[s]);
     (0..5).any(|s| !own(s).contains(&view.finals[s]))
 }
 
-fn has_charge_for_unpaid(line: &[u8], view: &mewikofu::View) -> bool {
-    let Some(line) = Line::new(line) else {
-        return false;
-    };
+fn has_charge_for_unpaid(line: Line, view: &mewikofu::View) -> bool {
     let unpaid = |r, s| view.matches[pair(r, s)] == 0 || !line.accredited(r);
     (1..5).any(|s| view.finals[s] < 0 && (0..s).all(|r| unpaid(r, s)))
+}
+
+/// The schedules whose bid is pulled.
+fn pulled(line: Line<'_>) -> impl Iterator<Item = usize> + '_ {
+    (0..SCHEDULES).filter(move |&s| line.is_pulled(s))
+}
+
+/// Where the bid is pulled the flag is 1.
+fn check_view(line: Line, view: &mewikofu::View) -> Result<(), String> {
+    pulled(line).try_for_each(|s| same("a pulled bid's flag", &view.flag[s], &1))
+}
+
+/// Where the bid is pulled every step has flag 1 and the same price.
+fn check_cut(line: Line, cut: &mewikofu::Cut) -> Result<(), String> {
+    let count = cut.count as usize;
+    pulled(line).try_for_each(|s| {
+        let prices = &cut.prices[s][..count];
+        same("a pulled bid's flags", &cut.flags[s], &((1 << count) - 1))?;
+        same("a pulled bid's missing", &cut.missing[s], &cut.count)?;
+        let is_first = |price| same("a pulled bid's price", price, &prices[0]);
+        prices.iter().try_for_each(is_first)
+    })
 }
 
 fn same<T: PartialEq + std::fmt::Debug>(what: &str, found: &T, expected: &T) -> Result<(), String> {

@@ -4,11 +4,12 @@ mod compare;
 mod mutate;
 mod random;
 
-use compare::{Call, Compare, Numbers, MOST_ROOM};
+use compare::{Call, Compare, Numbers, MET, MOST_ROOM};
 use mewikofu::Refusal;
 use random::Random;
 use reference::generate::{
-    damaged_day, set_day, set_fault_day, small_day, small_set_day, valid_day,
+    damaged_day, pulled_day, pulled_fault_day, set_day, set_fault_day, small_day, small_pulled_day,
+    small_set_day, valid_day,
 };
 use reference::layout::*;
 use std::panic::{catch_unwind, AssertUnwindSafe};
@@ -58,8 +59,7 @@ struct Counts {
     cut: Answers,
     view: Answers,
     part: Answers,
-    shared: u64,
-    charged: u64,
+    met: [u64; MET.len()],
 }
 
 /// The places of docs/REFUSALS.md that a call checks.
@@ -83,11 +83,12 @@ impl Counts {
         self.cut[numbers.cut as usize] += 1;
         self.view[numbers.view as usize] += 1;
         self.part[numbers.part as usize] += 1;
-        self.shared += u64::from(numbers.shared);
-        self.charged += u64::from(numbers.charged);
+        for (count, met) in self.met.iter_mut().zip(numbers.met) {
+            *count += u64::from(met);
+        }
     }
 
-    /// The counts, and whether each call answered all numbers of its places and no other, and both kinds of view were met.
+    /// The counts, and whether each call answered all numbers of its places and no other, and all of `MET` was met.
     fn print(&self) -> bool {
         let all = [
             ("settle", &self.settle, SETTLE),
@@ -105,9 +106,10 @@ impl Counts {
             println!("{name}: {}", text.join(", "));
             reached &= (0..counts.len()).all(|k| (counts[k] > 0) == numbers.contains(&k));
         }
-        println!("views with a share of T: {}", self.shared);
-        println!("views with a charge for unpaid rises: {}", self.charged);
-        reached && self.shared > 0 && self.charged > 0
+        for (what, count) in MET.iter().zip(self.met) {
+            println!("{what}: {count}");
+        }
+        reached && self.met.iter().all(|&count| count > 0)
     }
 }
 
@@ -151,7 +153,7 @@ fn run(seed: u64, iterations: std::ops::Range<u64>) -> bool {
         count as f64 / seconds
     );
     if !counts.print() && count >= 100_000 {
-        println!("failed: a call didn't answer exactly the numbers of its places, or a kind of view was never met");
+        println!("failed: a call didn't answer exactly the numbers of its places, or a kind of view or cut was never met");
         return false;
     }
     true
@@ -182,13 +184,16 @@ fn draw_days(seed: u64, round: u64) -> Vec<Vec<u8>> {
 
 fn draw_day(random: &mut Random) -> Vec<u8> {
     let seed = random.next();
-    let mut day = match random.below(24) {
+    let mut day = match random.below(36) {
         0 => damaged_day(seed),
         1 => set_fault_day(seed),
-        2..6 => valid_day(seed),
-        6..10 => set_day(seed),
-        10..17 => small_day(seed),
-        _ => small_set_day(seed),
+        2 => pulled_fault_day(seed),
+        3..7 => valid_day(seed),
+        7..11 => set_day(seed),
+        11..15 => pulled_day(seed),
+        15..22 => small_day(seed),
+        22..29 => small_set_day(seed),
+        _ => small_pulled_day(seed),
     };
     let wanted = 1 + random.below(4);
     if mutate::lines(&day) > wanted {

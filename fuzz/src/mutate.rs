@@ -2,6 +2,7 @@
 
 use crate::random::Random;
 use reference::layout::*;
+use reference::quantities::{operating_totals, pricing_totals};
 
 /// Changes a day. Half of the days get only changes that mostly keep them accepted.
 pub fn mutate(day: &mut Vec<u8>, random: &mut Random) {
@@ -51,13 +52,26 @@ fn greatest_break(line: &[u8]) -> u32 {
     (0..SCHEDULES).map(last).fold(0, u32::max)
 }
 
-fn some_price(line: &[u8], random: &mut Random) -> u32 {
+fn is_pulled(line: &[u8], bid: usize) -> bool {
+    word(line, count_place(bid)) == 0
+}
+
+/// Some bid, the first in the place of a pulled one.
+fn some_bid(line: &[u8], random: &mut Random) -> usize {
     let bid = random.below(SCHEDULES);
+    match is_pulled(line, bid) {
+        true => 0,
+        false => bid,
+    }
+}
+
+fn some_price(line: &[u8], random: &mut Random) -> u32 {
+    let bid = some_bid(line, random);
     word(line, price_place(bid, random.below(used(line, bid))))
 }
 
 fn some_break(line: &[u8], random: &mut Random) -> u32 {
-    let bid = random.below(SCHEDULES);
+    let bid = some_bid(line, random);
     word(line, break_place(bid, random.below(used(line, bid))))
 }
 
@@ -96,8 +110,12 @@ pub fn scatter(day: &mut [u8], random: &mut Random) {
         put_word(day, MARKET_PRICE + s, near(market, random).min(PRICE_LIMIT));
     }
     let by_schedule = random.one_in(2);
+    let pulled = random.one_in(3);
     for k in 0..lines(day) {
         let line = line_mut(day, k);
+        if pulled && random.one_in(2) {
+            pull_bid(line, random);
+        }
         let set = random.range(EMPTY_SET, FULL_SET);
         put_word(line, ACCREDITATION, if by_schedule { set } else { 1 });
         let most = greatest_break(line);
@@ -165,7 +183,7 @@ fn change_lines(day: &mut Vec<u8>, n: usize, random: &mut Random) {
 fn change_line(line: &mut [u8], random: &mut Random) {
     let bid = random.below(SCHEDULES);
     let most = greatest_break(line);
-    match random.below(20) {
+    match random.below(23) {
         0 => change_accreditation(line, random),
         1 => {
             let value = random.range(0, 12);
@@ -179,15 +197,11 @@ fn change_line(line: &mut [u8], random: &mut Random) {
             let value = random.pick(&[value, value, value, 0, most]);
             put_word(line, HEDGE, value);
         }
-        5 | 6 => change_break(line, bid, random),
-        7 | 8 => change_price(line, bid, random),
-        9 => {
-            let from = random.below(SCHEDULES);
-            let (start, end) = (4 * count_place(from), 4 * count_place(from + 1));
-            line.copy_within(start..end, 4 * count_place(bid));
-        }
-        10 => lengthen_bid(line, bid, random),
-        11 => shorten_bid(line, bid),
+        5 | 6 => change_break(line, some_bid(line, random), random),
+        7 | 8 => change_price(line, some_bid(line, random), random),
+        9 => copy_bid(line, random.below(SCHEDULES), bid),
+        10 => lengthen_bid(line, some_bid(line, random), random),
+        11 => shorten_bid(line, some_bid(line, random)),
         12 => {
             let (a, b) = (random.below(SCHEDULES), random.below(SCHEDULES));
             let (from, to) = (operating_place(bid, a), operating_place(bid, b));
@@ -222,6 +236,8 @@ fn change_line(line: &mut [u8], random: &mut Random) {
             }
             put_word(line, pricing_place(bid, SCHEDULES - 1), value);
         }
+        19 => pull_bid(line, random),
+        20 | 21 => put_bid_back(line, random),
         _ => {
             let i = random.range(bid as u32, SCHEDULES as u32 - 1) as usize;
             let value = random.range(0, word(line, pricing_place(bid, i)));
@@ -325,6 +341,54 @@ fn shorten_bid(line: &mut [u8], bid: usize) {
         put_word(line, break_place(bid, n - 1), 0);
         put_word(line, price_place(bid, n - 1), 0);
         put_word(line, count_place(bid), n as u32 - 1);
+    }
+}
+
+fn copy_bid(line: &mut [u8], from: usize, to: usize) {
+    let bytes = 4 * count_place(from)..4 * count_place(from + 1);
+    line.copy_within(bytes, 4 * count_place(to));
+}
+
+/// Pulls a bid after the first. Sometimes one of its slots stays, or hedge and totals as they were.
+fn pull_bid(line: &mut [u8], random: &mut Random) {
+    let bid = 1 + random.below(SCHEDULES - 1);
+    let slot = count_place(bid) + 1 + random.below(2 * BID_SLOTS);
+    let kept = word(line, slot);
+    line[4 * count_place(bid)..4 * count_place(bid + 1)].fill(0);
+    match random.below(16) {
+        0 => put_word(line, slot, kept),
+        1 => {}
+        _ => fit_to_most(line),
+    }
+}
+
+/// Takes hedge and totals down to M.
+fn fit_to_most(line: &mut [u8]) {
+    let most = greatest_break(line);
+    put_word(line, HEDGE, word(line, HEDGE).min(most));
+    let totals = |of: fn(Line) -> BySchedule<u64>| Line::new(line).map_or([0; SCHEDULES], of);
+    let (pricing, operating) = (totals(pricing_totals), totals(operating_totals));
+    let is_above = |total: u64| total > u64::from(most);
+    for s in (0..SCHEDULES).filter(|&s| is_above(operating[s])) {
+        (0..SCHEDULES).for_each(|i| put_word(line, operating_place(s, i), 0));
+        put_word(line, operating_place(s, s), most);
+    }
+    if pricing.into_iter().any(is_above) {
+        (pricing_place(0, 0)..operating_place(0, 0)).for_each(|place| put_word(line, place, 0));
+    }
+}
+
+/// Puts a pulled bid back, with the steps of another, one more or one fewer.
+fn put_bid_back(line: &mut [u8], random: &mut Random) {
+    let bid = random.below(SCHEDULES);
+    if !is_pulled(line, bid) {
+        return;
+    }
+    copy_bid(line, some_bid(line, random), bid);
+    match random.below(3) {
+        0 => lengthen_bid(line, bid, random),
+        1 => shorten_bid(line, bid),
+        _ => {}
     }
 }
 
@@ -435,7 +499,8 @@ fn cross_limit(line: &mut [u8], random: &mut Random) {
             put_word(line, price_place(bid, slot), PRICE_LIMIT + beyond);
         }
         5 if n < BID_SLOTS => {
-            let slot = n + random.below(BID_SLOTS - n);
+            let first = if is_pulled(line, bid) { 0 } else { n };
+            let slot = first + random.below(BID_SLOTS - first);
             let place = random.pick(&[break_place(bid, slot), price_place(bid, slot)]);
             put_word(line, place, beyond);
         }

@@ -1,4 +1,4 @@
-//! Steps, their uncapped prices and flags (01 "Steps and prices", FD 4.2 and 4.3).
+//! Steps, their uncapped prices and flags (01 "Steps and prices", 02 F-6, FD 4.2 and 4.3).
 
 use crate::layout::*;
 use crate::refusal::cut_number;
@@ -62,7 +62,8 @@ impl Steps {
     }
 }
 
-/// Reads the breaks and prices of a bid. After the last break stands `NO_BREAK` at the last price.
+/// Reads the breaks and prices of a bid. After the last break stands `NO_BREAK` at the schedule's last price; in a
+/// pulled bid it stands first.
 fn read_bid(line: Line, bid: usize, breaks: &mut Column, prices: &mut Column) {
     let count = line.count(bid);
     for slot in 0..BID_SLOTS {
@@ -70,7 +71,7 @@ fn read_bid(line: Line, bid: usize, breaks: &mut Column, prices: &mut Column) {
         breaks[slot] = if slot < count { end } else { NO_BREAK };
         prices[slot] = line.price(bid, slot);
     }
-    prices[count] = prices[count - 1];
+    prices[count] = line.last_price(bid);
 }
 
 impl Iterator for Steps {

@@ -161,9 +161,13 @@ impl<'a> Line<'a> {
         }
     }
 
-    /// How many slots of a bid are used.
+    /// How many slots of a bid are used; none in a pulled bid (02 F-6).
     pub fn count(self, bid: usize) -> usize {
         self.word(count_place(bid)) as usize
+    }
+
+    pub fn is_pulled(self, bid: usize) -> bool {
+        self.count(bid) == 0
     }
 
     pub fn break_point(self, bid: usize, slot: usize) -> u32 {
@@ -174,10 +178,20 @@ impl<'a> Line<'a> {
         self.word(price_place(bid, slot))
     }
 
-    /// M, the greatest break of the five bids: the greatest of their last ones, since breaks rise.
+    /// The last price in schedule s, from 0: that of its bid, or where this is pulled that of the nearest earlier bid
+    /// that isn't (02 F-6). The first bid never is.
+    pub fn last_price(self, s: usize) -> u32 {
+        match self.count(s) {
+            0 => self.last_price(s - 1),
+            count => self.price(s, count - 1),
+        }
+    }
+
+    /// M, the greatest break of the bids that aren't pulled: the greatest of their last ones, since breaks rise.
     pub fn greatest_break(self) -> u32 {
+        let there = (0..SCHEDULES).filter(|&bid| !self.is_pulled(bid));
         let last = |bid| self.break_point(bid, self.count(bid) - 1);
-        (0..SCHEDULES).map(last).fold(0, u32::max)
+        there.map(last).fold(0, u32::max)
     }
 }
 

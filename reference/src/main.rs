@@ -1,8 +1,9 @@
 //! The program: reports of days and lines, and generated ones to report on.
 
 use reference::generate::{
-    accreditation_days, damaged_day, damaged_line, edge_days, line, set_day, set_fault_day,
-    set_fault_line, set_line, small_day, small_set_day, valid_day,
+    accreditation_days, damaged_day, damaged_line, edge_days, line, pulled_day, pulled_fault_day,
+    pulled_fault_line, pulled_k10_days, pulled_line, set_day, set_fault_day, set_fault_line,
+    set_line, small_day, small_pulled_day, small_set_day, valid_day,
 };
 use reference::k10::k10;
 use reference::k3_to_k7::k3_to_k7;
@@ -14,12 +15,13 @@ use std::process::ExitCode;
 
 const USAGE: &str = "usage: reference settle|steps < DAY
        reference cut < LINE
-       reference day SEED valid|small|damaged|sets|small-sets|set-faults
-       reference days SEED COUNT valid|small|damaged|mixed|sets|small-sets|set-faults
-       reference lines SEED COUNT [sets]
-       reference edges|accreditations
+       reference day SEED KIND
+       reference days SEED COUNT KIND
+       reference lines SEED COUNT [sets|pulled]
+       reference edges|accreditations|pulled
        reference expect settle|steps|cut|number < PACK
-       reference k10|k3-to-k7";
+       reference k10|k3-to-k7
+KIND is valid, small, damaged, mixed, sets, small-sets, set-faults, pulled, small-pulled or pulled-faults.";
 
 fn main() -> ExitCode {
     let arguments: Vec<String> = std::env::args().skip(1).collect();
@@ -45,6 +47,7 @@ fn run(arguments: &[&str], out: &mut impl Write) -> io::Result<bool> {
         ["k3-to-k7"] => out.write_all(&k3_to_k7())?,
         ["edges"] => write_pack(edge_days(), out)?,
         ["accreditations"] => write_pack(accreditation_days(), out)?,
+        ["pulled"] => write_pack(pulled_k10_days(), out)?,
         ["expect", kind] => return expect(kind, out),
         [kind] => return report(kind, out),
         ["day", seed, kind] => {
@@ -56,6 +59,9 @@ fn run(arguments: &[&str], out: &mut impl Write) -> io::Result<bool> {
         ["days", seed, count, kind] => return packed(seed, count, generator(kind), out),
         ["lines", seed, count] => return packed(seed, count, Some(some_line), out),
         ["lines", seed, count, "sets"] => return packed(seed, count, Some(some_set_line), out),
+        ["lines", seed, count, "pulled"] => {
+            return packed(seed, count, Some(some_pulled_line), out)
+        }
         _ => return Ok(false),
     }
     Ok(true)
@@ -84,6 +90,9 @@ fn generator(kind: &str) -> Option<Draw> {
         "sets" => Some(|_, seed| set_day(seed)),
         "small-sets" => Some(|_, seed| small_set_day(seed)),
         "set-faults" => Some(|_, seed| set_fault_day(seed)),
+        "pulled" => Some(|_, seed| pulled_day(seed)),
+        "small-pulled" => Some(|_, seed| small_pulled_day(seed)),
+        "pulled-faults" => Some(|_, seed| pulled_fault_day(seed)),
         _ => None,
     }
 }
@@ -101,6 +110,14 @@ fn some_set_line(k: u64, seed: u64) -> Vec<u8> {
     match k % 3 {
         2 => set_fault_line(seed),
         _ => set_line(seed),
+    }
+}
+
+/// Every third line is at a limit that pulled bids have.
+fn some_pulled_line(k: u64, seed: u64) -> Vec<u8> {
+    match k % 3 {
+        2 => pulled_fault_line(seed),
+        _ => pulled_line(seed),
     }
 }
 

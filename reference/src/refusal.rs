@@ -1,4 +1,5 @@
-//! The refusals (01 "Where each refusal is checked", 02 F-7). Each call answers the number of the first fault met, or 0.
+//! The refusals (01 "Where each refusal is checked", 02 F-7 and F-6). Each call answers the number of the first fault
+//! met, or 0.
 
 use crate::cut::Steps;
 use crate::layout::{self, *};
@@ -108,10 +109,10 @@ fn check_line(line: Line) -> Check {
     require(actuals.all(|actual| actual <= QUANTITY_LIMIT), 13)
 }
 
-/// 7 to 10, each over the whole bid.
+/// 7 to 10, each over the whole bid. Only a later bid than the first may be pulled; then no slot is used.
 fn check_bid(line: Line, bid: usize) -> Check {
     let count = line.count(bid);
-    require((1..=BID_SLOTS).contains(&count), 7)?;
+    require(count <= BID_SLOTS && (bid > 0 || count > 0), 7)?;
     require(breaks_rise(line, bid, count), 8)?;
     require(prices_in_order(line, bid, count), 9)?;
     let unused = |slot| line.break_point(bid, slot) == 0 && line.price(bid, slot) == 0;

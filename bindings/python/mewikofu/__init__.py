@@ -61,7 +61,7 @@ _REFUSALS: Dict[int, Tuple[str, str]] = {
     4: ("market", "a market price or the administered price cap is above 10,000,000 price units"),
     5: ("market", "a cap mark or the clawback switch is above 1"),
     6: ("each line", "a line's side is above 1, or its accreditation is 2 to 31 or above 63"),
-    7: ("each line", "a bid's count is 0 or above 11"),
+    7: ("each line", "a bid's count is 0 in schedule 1, or above 11"),
     8: ("each line", "a bid's breaks aren't strictly rising from above 0, or one is above 200,000,000 MJ"),
     9: ("each line", "a bid's price is above 10,000,000 price units, or falls (withdrawal: rises)"),
     10: ("each line", "an unused slot of a bid isn't 0"),
@@ -156,6 +156,11 @@ class Cut:
     prices: Tuple[Tuple[int, ...], ...]
     flags: Tuple[Tuple[bool, ...], ...]
     missing: Tuple[int, ...]
+
+    def pulled(self, s: SupportsIndex) -> bool:
+        """Whether the bid of schedule s, counted from 0, was pulled (document 02, F-6): its count is 0. Every step is then flagged and has the last
+        price of the nearest earlier bid that wasn't pulled. A bid with steps has a price for the line's first step."""
+        return self.flags[_schedule(s)][0]
 
 
 def settle(day: ReadableBuffer) -> Book:

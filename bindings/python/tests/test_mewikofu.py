@@ -4,6 +4,7 @@ usage, from bindings/python, after ./build: python3 -m unittest discover -s test
 """
 
 import doctest
+import itertools
 import os
 import pickle
 import re
@@ -125,6 +126,55 @@ class AccreditationTest(unittest.TestCase):
                 self.assertEqual(mewikofu.settle(day).totals, due)
             else:
                 self.assertEqual(number(mewikofu.settle, day), 6)
+
+
+class PulledTest(unittest.TestCase):
+    def pulled(self, schedules):
+        """K10's day with the bids of these schedules, counted from 0, pulled: their count and slots are 0."""
+        day = bytearray(K10)
+        for s in schedules:
+            bid = 64 + 20 + 92 * s
+            day[bid : bid + 92] = bytes(92)
+        return day
+
+    def test_cut(self):
+        # K10's bids end with a price of 50000, which every step takes where the bid was pulled.
+        for count in range(5):
+            for schedules in itertools.combinations(range(1, 5), count):
+                day = self.pulled(schedules)
+                steps = mewikofu.cut(mewikofu.line_part(day, 0))
+                step = mewikofu.view(day, 0, 0)
+                for s in range(5):
+                    pulled = s in schedules
+                    self.assertIs(steps.pulled(s), pulled)
+                    self.assertEqual(steps.flags[s], (pulled, pulled))
+                    self.assertEqual(steps.missing[s], 2 * pulled)
+                    self.assertEqual(steps.prices[s], (50000 if pulled else 20000, 50000))
+                    self.assertEqual((step.price[s], step.flag[s]), (steps.prices[s][0], pulled))
+                # Step 0 is in the market all day, and step 1 has the same price as without pulled bids.
+                self.assertEqual(mewikofu.settle(day), mewikofu.settle(K10))
+        for s in (-1, 5):
+            self.assertRaises(ValueError, steps.pulled, s)
+        self.assertRaises(TypeError, steps.pulled, 1.0)
+
+    def test_short_bid(self):
+        # A bid that ends before the line does isn't pulled.
+        day = bytearray(K10)
+        bid = 64 + 20 + 92 * 3
+        day[bid] = 1
+        for slot in (8, 52):
+            day[bid + slot : bid + slot + 4] = bytes(4)
+        steps = mewikofu.cut(mewikofu.line_part(day, 0))
+        self.assertEqual(steps.flags[3], (False, True))
+        self.assertIs(steps.pulled(3), False)
+
+    def test_refused(self):
+        self.assertEqual(number(mewikofu.settle, self.pulled([0])), 7)
+        self.assertEqual(number(mewikofu.settle, self.pulled(range(5))), 7)
+        for slot in range(1, 23):
+            day = self.pulled([3])
+            day[64 + 20 + 92 * 3 + 4 * slot] = 1
+            self.assertEqual(number(mewikofu.settle, day), 10)
 
 
 class LentTest(unittest.TestCase):
@@ -262,7 +312,7 @@ class PageTest(unittest.TestCase):
 
 class ReportTest(unittest.TestCase):
     def test_example_days(self):
-        for name in ("k10", "both-sides", "withdrawals", "rules", "accreditation", "winter"):
+        for name in ("k10", "both-sides", "withdrawals", "rules", "accreditation", "pulled", "winter"):
             day = (ROOT / f"examples/{name}.day").read_bytes()
             self.assertEqual(report(mewikofu.settle(day)), (ROOT / f"examples/{name}.report").read_text())
 

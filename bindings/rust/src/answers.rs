@@ -12,7 +12,7 @@ pub struct View {
     pub actual: u32,
     /// Capped, in $0.0001 per GJ.
     pub price: [u32; SCHEDULES],
-    /// 1 where the bid has no price for the step.
+    /// 1 where the bid has no price for the step, or was pulled.
     pub flag: [u32; SCHEDULES],
     /// O.
     pub operating: [u32; SCHEDULES],
@@ -55,7 +55,7 @@ pub struct Cut {
     pub ends: [u32; MOST_STEPS],
     /// Uncapped prices by schedule and step.
     pub prices: [[u32; MOST_STEPS]; SCHEDULES],
-    /// By schedule: bit k is 1 where the bid has no price for step k.
+    /// By schedule: bit k is 1 where the bid has no price for step k, or was pulled.
     pub flags: [u64; SCHEDULES],
     /// By schedule: how many flags are 1.
     pub missing: [u32; SCHEDULES],
@@ -82,5 +82,11 @@ impl Cut {
     /// Whether the bid of a schedule has no price for a step, both counted from 0.
     pub fn flag(&self, schedule: usize, step: usize) -> bool {
         step < MOST_STEPS && self.flags[schedule] >> step & 1 == 1
+    }
+
+    /// Whether the bid of a schedule, counted from 0, was pulled (document 02, F-6): its count is 0. Every step is then flagged and has the last
+    /// price of the nearest earlier bid that wasn't pulled. A bid with steps has a price for the line's first step.
+    pub fn is_pulled(&self, schedule: usize) -> bool {
+        self.flag(schedule, 0)
     }
 }

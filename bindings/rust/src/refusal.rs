@@ -40,7 +40,7 @@ refusals! {
     MarketPrice = 4, "market", "a market price or the administered price cap is above 10,000,000 price units";
     MarketMark = 5, "market", "a cap mark or the clawback switch is above 1";
     SideOrAccreditation = 6, "each line", "a line's side is above 1, or its accreditation is 2 to 31 or above 63";
-    BidCount = 7, "each line", "a bid's count is 0 or above 11";
+    BidCount = 7, "each line", "a bid's count is 0 in schedule 1, or above 11";
     Breaks = 8, "each line", "a bid's breaks aren't strictly rising from above 0, or one is above 200,000,000 MJ";
     Prices = 9, "each line", "a bid's price is above 10,000,000 price units, or falls (withdrawal: rises)";
     UnusedSlot = 10, "each line", "an unused slot of a bid isn't 0";

@@ -99,6 +99,63 @@ fn accreditation_in_a_sixth_schedule() {
     Accreditation::Yes.holds_in(5);
 }
 
+/// K10's day with the bids of these schedules, counted from 0, pulled: their count and slots are 0.
+fn k10_pulled(schedules: &[usize]) -> Vec<u8> {
+    let mut day = K10.to_vec();
+    for s in schedules {
+        let bid = 64 + 20 + 92 * s;
+        day[bid..bid + 92].fill(0);
+    }
+    day
+}
+
+/// Each set of the last four schedules. K10's bids end with a price of 50,000, which every step takes where the bid was pulled.
+#[test]
+fn pulled_bids() {
+    for set in 0..16_usize {
+        let pulled: Vec<usize> = (1..5).filter(|s| set >> (s - 1) & 1 == 1).collect();
+        let day = k10_pulled(&pulled);
+        let steps = cut(line_part(&day, 0).unwrap()).unwrap();
+        let step = view(&day, 0, 0).unwrap();
+        for s in 0..5 {
+            let is_pulled = pulled.contains(&s);
+            assert_eq!(steps.is_pulled(s), is_pulled, "{pulled:?}");
+            let (first, flags, flag) = match is_pulled {
+                true => (50_000, 0b11_u64, 1),
+                false => (20_000, 0, 0),
+            };
+            assert_eq!(steps.prices[s][..2], [first, 50_000]);
+            let missing = flags.count_ones();
+            assert_eq!((steps.flags[s], steps.missing[s]), (flags, missing));
+            assert_eq!((step.price[s], step.flag[s]), (first, flag));
+        }
+        // Step 0 is in the market all day, and step 1 has the same price as without pulled bids.
+        assert_eq!(settle(&day), settle(K10), "{pulled:?}");
+        let first = k10_pulled(&[&[0], &pulled[..]].concat());
+        assert_eq!(settle(&first), Err(Refusal::BidCount));
+    }
+    for s in 1..5 {
+        for place in 1..23 {
+            let mut day = k10_pulled(&[1, 2, 3, 4]);
+            day[64 + 20 + 92 * s + 4 * place] = 1;
+            assert_eq!(settle(&day), Err(Refusal::UnusedSlot));
+        }
+    }
+}
+
+/// A bid that ends before the line does isn't pulled.
+#[test]
+fn short_bid() {
+    let mut day = K10.to_vec();
+    let bid = 64 + 20 + 92 * 3;
+    day[bid] = 1;
+    for slot in [8, 52] {
+        day[bid + slot..bid + slot + 4].fill(0);
+    }
+    let steps = cut(line_part(&day, 0).unwrap()).unwrap();
+    assert_eq!((steps.flags[3], steps.is_pulled(3)), (0b10, false));
+}
+
 /// One version: the file VERSION, this crate's and the header's.
 #[test]
 fn version() {

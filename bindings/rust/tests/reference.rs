@@ -2,7 +2,9 @@
 //! MEWIKOFU_DAYS in the environment is how many days, 20,000 where it isn't set.
 
 use mewikofu::{book_bytes, cut, line_part, raw, settle, settle_into, view, Refusal, Side};
-use reference::generate::{damaged_day, set_day, set_fault_day, valid_day};
+use reference::generate::{
+    damaged_day, pulled_day, pulled_fault_day, set_day, set_fault_day, valid_day,
+};
 use reference::layout::{day_length, signed, word, LINE_BYTES, MOST_LINES};
 
 /// Places beyond every line and step.
@@ -13,11 +15,18 @@ fn days() -> u64 {
     wanted.map_or(20_000, |wanted| wanted.parse().expect("a number of days"))
 }
 
-/// Seeds in a row; every second day is damaged, of four days two have accreditation by schedule.
+/// Seeds in a row; every second day is damaged, of six days two have accreditation by schedule and two pulled bids.
 /// Boxed, so that memcheck sees a read past the end.
 fn day(k: u64) -> Box<[u8]> {
-    let draw = [valid_day, damaged_day, set_day, set_fault_day][k as usize % 4];
-    draw(k / 4).into()
+    const DRAWS: [fn(u64) -> Vec<u8>; 6] = [
+        valid_day,
+        damaged_day,
+        set_day,
+        set_fault_day,
+        pulled_day,
+        pulled_fault_day,
+    ];
+    DRAWS[k as usize % 6](k / 6).into()
 }
 
 /// Some number below n, from the day's own number.

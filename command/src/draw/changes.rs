@@ -2,7 +2,7 @@
 
 use super::markup::{at, Markup};
 use super::settled::change;
-use super::{decimals, put_money, Drawn, Unpaid};
+use super::{decimals, put_money, schedule_heading, Drawn, Unpaid};
 use crate::amounts::Energy;
 use crate::figures::Line;
 use crate::layout::SCHEDULES;
@@ -85,10 +85,10 @@ impl<'a> Table<'a> {
         page.element("th scope=\"col\" rowspan=\"2\"", "Step");
         page.element("th scope=\"col\" rowspan=\"2\"", &quantity);
         page.element("th scope=\"col\" rowspan=\"2\" class=\"left\"", "Status");
-        for s in 1..=SCHEDULES {
+        for s in 0..SCHEDULES {
             page.element(
                 "th scope=\"colgroup\" colspan=\"2\" class=\"schedule\"",
-                &format!("Schedule {s}"),
+                &schedule_heading(self.line, s),
             );
         }
         page.close().open("tr");

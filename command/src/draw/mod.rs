@@ -13,6 +13,7 @@ use crate::amounts::{dollars, Energy, MONEY_PLACES, PRICE_PLACES};
 use crate::arguments::Options;
 use crate::figures::{Figures, Line};
 use crate::layout::SCHEDULES;
+use crate::lists::pulled_sentence;
 use crate::outcome::{Problem, Result, Status};
 use crate::values::counted;
 use markup::Markup;
@@ -144,12 +145,13 @@ fn legend(page: &mut Markup, drawn: &Drawn) {
         ("rect class=\"hedged\"", "hedged: not paid"),
         ("rect class=\"not-accredited\"", "not accredited: not paid"),
     ];
+    let missing = match drawn.day.lines.iter().any(|line| !line.pulled().is_empty()) {
+        true => "price past the bid's last step, or with the bid pulled (flag 1)",
+        false => "price past the bid's last step (flag 1)",
+    };
     let mut prices = vec![
         ("path class=\"price\"", "price of a step"),
-        (
-            "path class=\"price missing\"",
-            "price past the bid's last step (flag 1)",
-        ),
+        ("path class=\"price missing\"", missing),
         ("path class=\"market\"", "market price"),
     ];
     if drawn.day.market.marks.contains(&true) {
@@ -213,7 +215,18 @@ fn line_words(drawn: &Drawn, line: &Line) -> String {
         ),
     };
     let steps = counted(line.steps.len(), "step");
-    format!("{accredited}{paid}. {hedge} {steps}.")
+    let pulled = pulled_sentence(&line.pulled());
+    format!("{accredited}{paid}. {hedge} {steps}.{pulled}")
+}
+
+/// The heading of schedule s, from 0, in a line's table and plots.
+fn schedule_heading(line: &Line, s: usize) -> String {
+    let pulled = if line.is_pulled(s) {
+        ", bid pulled"
+    } else {
+        ""
+    };
+    format!("Schedule {}{pulled}", s + 1)
 }
 
 fn footer(page: &mut Markup) {

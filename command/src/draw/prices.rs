@@ -2,10 +2,11 @@
 
 use super::axis::{Along, Prices};
 use super::markup::{at, Markup};
-use super::{Drawn, Unpaid};
+use super::{schedule_heading, Drawn, Unpaid};
 use crate::amounts::{dollars, dollars_alike, PRICE_PLACES};
 use crate::figures::Line;
 use crate::layout::SCHEDULES;
+use crate::lists::pulled_sentence;
 use mewikofu::Side;
 use std::fmt::Write;
 
@@ -86,8 +87,9 @@ impl<'a> Plots<'a> {
         };
         format!(
             "Five plots, one for each schedule: the price of each step along the line's quantity in {}, the market price, \
-             the cap where one applies, and what is constrained on between the two prices. Parts that aren't paid are hatched.{cut}",
-            self.drawn.energy.name()
+             the cap where one applies, and what is constrained on between the two prices. Parts that aren't paid are hatched.{cut}{}",
+            self.drawn.energy.name(),
+            pulled_sentence(&self.line.pulled())
         )
     }
 
@@ -177,7 +179,7 @@ impl<'a> Plots<'a> {
         let place = |y: f64, class: &str| {
             format!("text x=\"{}\" y=\"{}\" class=\"{class}\"", at(left), at(y))
         };
-        page.element(&place(16.0, "schedule"), &format!("Schedule {}", s + 1));
+        page.element(&place(16.0, "schedule"), &schedule_heading(self.line, s));
         let written = |value: u32| dollars(i64::from(value), PRICE_PLACES, 2);
         let words = format!("market price {}", written(market.prices[s]));
         page.element(&place(33.0, "market-words"), &words);

@@ -84,6 +84,12 @@ fn change(step: &View, s: usize) -> (u32, u32) {
     (now.saturating_sub(before), before.saturating_sub(now))
 }
 
+/// The schedule whose bid gives the prices of schedule s. The first bid is never pulled.
+fn pricing_bid(line: &Line, s: usize) -> usize {
+    let not_pulled = (0..=s).rev().find(|&bid| !line.is_pulled(bid));
+    not_pulled.unwrap_or(0)
+}
+
 /// Which sentence of document 01's "Final", or of whether a step is paid in the schedule, was taken.
 #[derive(Clone, Copy, Debug, PartialEq, Eq)]
 pub enum Rule {
@@ -142,6 +148,8 @@ pub struct Reason<'a> {
     pub own: &'a Line,
     pub view: &'a View,
     pub market_price: u32,
+    /// The schedule whose bid gives the price: s, or where that bid was pulled the nearest earlier one with a bid that wasn't.
+    pub bid: usize,
     /// Before the cap.
     pub bid_price: u32,
     pub cap: Option<u32>,
@@ -185,6 +193,7 @@ impl<'a> Reason<'a> {
             own,
             view,
             market_price,
+            bid: pricing_bid(own, s),
             bid_price: cut.prices[s][j],
             cap: day.market.marks[s].then_some(day.market.cap),
             rate: rate(side, view.price[s], market_price),
@@ -230,7 +239,14 @@ impl<'a> Reason<'a> {
             self.cap.unwrap_or(u32::MAX).min(self.bid_price),
             view.price[s],
         )?;
-        self.fits("its flag", u32::from(cut.flag(s, j)), view.flag[s])
+        self.fits("its flag", u32::from(cut.flag(s, j)), view.flag[s])?;
+        if self.bid == s {
+            return Ok(());
+        }
+        // The last of a line's steps has the bid's last price.
+        let last = cut.prices[self.bid][cut.ends().len() - 1];
+        self.fits("the price taken over", last, self.bid_price)?;
+        self.fits("its flag with a pulled bid", 1, view.flag[s])
     }
 
     /// The least of O(s) .. O(5).

@@ -3,7 +3,7 @@
 use super::reason::{Match, Reason, Rule};
 use crate::amounts::{dollars, gj, price, MONEY_PLACES};
 use crate::layout::SCHEDULES;
-use crate::lists::{joined, number_words};
+use crate::lists::{joined, number_words, pulled_words};
 use mewikofu::{Accreditation, Side};
 
 /// With as many decimals as it needs, and at least cents. Prices have all four decimals.
@@ -21,11 +21,7 @@ pub fn side_words(side: Side) -> &'static str {
 /// Where the price comes from, and the rate.
 pub fn price_words(reason: &Reason) -> String {
     let (view, s) = (reason.view, reason.s);
-    let bid = price(reason.bid_price);
-    let bid = match view.flag[s] {
-        0 => format!("the bid of schedule {} asks {bid} for this step", s + 1),
-        _ => format!("the bid of schedule {} doesn't reach this step, so its last price, {bid}, stands and is marked as missing", s + 1),
-    };
+    let bid = bid_words(reason);
     let capped = match reason.cap {
         Some(cap) if cap < reason.bid_price => format!("; the cap lowers it to {}", price(cap)),
         Some(cap) => format!("; the cap of {} doesn't change it", price(cap)),
@@ -48,6 +44,25 @@ pub fn price_words(reason: &Reason) -> String {
         }
     };
     format!("Price: {bid}{capped}. {rate}.")
+}
+
+/// What the bid has for the step, before the cap.
+fn bid_words(reason: &Reason) -> String {
+    let (s, bid) = (reason.s, price(reason.bid_price));
+    let missing = format!("{bid}, stands and is marked as missing");
+    match (reason.view.flag[s], reason.bid == s) {
+        (0, _) => format!("the bid of schedule {} asks {bid} for this step", s + 1),
+        (_, true) => format!(
+            "the bid of schedule {} doesn't reach this step, so its last price, {missing}",
+            s + 1
+        ),
+        (_, false) => {
+            let last = reason.bid + 1;
+            let pulled: Vec<usize> = (last + 1..=s + 1).collect();
+            let pulled = pulled_words(&pulled);
+            format!("the {pulled}, so the last price of the bid of schedule {last}, {missing}")
+        }
+    }
 }
 
 /// The functional design's names for the two sides.

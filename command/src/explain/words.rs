@@ -9,7 +9,7 @@ use crate::accreditation;
 use crate::amounts::{gj, price};
 use crate::figures::{Figures, Line};
 use crate::layout::SCHEDULES;
-use crate::lists::{joined, number_words};
+use crate::lists::{joined, number_words, pulled_sentence};
 use crate::values::counted;
 
 const WIDTH: usize = 100;
@@ -121,7 +121,8 @@ fn put_line(text: &mut Text, k: usize, line: &Line, reasons: &[&Reason], wanted:
     };
     let (participant, point, side) = (entry.participant, entry.point, side_words(entry.side));
     let size = counted(line.steps.len(), "step");
-    text.put(0, &format!("Line {k}: participant {participant}, point {point}, {side}, {accredited}, {hedge}, {size}."));
+    let pulled = pulled_sentence(&line.pulled());
+    text.put(0, &format!("Line {k}: participant {participant}, point {point}, {side}, {accredited}, {hedge}, {size}.{pulled}"));
     if wanted.schedule.is_none() && wanted.step.is_none() {
         let payments: Vec<String> = entry.payments.iter().map(|&one| money(one)).collect();
         let (sum, all) = (sum_of(&payments), entry.payments.iter().sum());

@@ -3,11 +3,11 @@
 use super::{has_shape, lines, not_said};
 use crate::accreditation::{named, word_of};
 use crate::arguments::Options;
-use crate::form::Kind;
+use crate::form::{pulled_hint, Kind};
 use crate::input::read_day;
 use crate::layout::*;
 use crate::outcome::{each, Result, Status};
-use crate::output::put_json;
+use crate::output::{put_json, Format};
 use crate::values::read_value;
 use mewikofu::Accreditation;
 use serde_json::{json, Map, Value};
@@ -145,7 +145,10 @@ fn put_line(bytes: &mut [u8], line: &Part) -> Read<()> {
         put_word(bytes, place, line.part(name).word(kind)?);
     }
     for (s, bid) in line.part("bids").items(SCHEDULES)?.iter().enumerate() {
-        let count = bid.value.as_array().map_or(0, Vec::len);
+        let Some(count) = bid.value.as_array().map(Vec::len) else {
+            let hint = pulled_hint(s, Format::Json);
+            return Err(format!("{}: not an array of steps{hint}", bid.path));
+        };
         if count > BID_SLOTS {
             return Err(format!("{}: {count} steps; at most {BID_SLOTS}", bid.path));
         }

@@ -2,11 +2,11 @@
 
 use super::{has_shape, lines, not_said};
 use crate::arguments::Options;
-use crate::form::Kind;
+use crate::form::{pulled_hint, Kind, NONE};
 use crate::input::{read_day, Input};
 use crate::layout::*;
 use crate::outcome::{each, Result, Status};
-use crate::output::{Table, Unit};
+use crate::output::{Format, Table, Unit};
 use crate::values::{read_value, write_value};
 use std::collections::BTreeMap;
 use std::io::Write;
@@ -19,7 +19,7 @@ struct Column {
     name: String,
     kind: Kind,
     place: Place,
-    /// Bid steps past the bid's count are empty, and their columns may be left out.
+    /// Bid steps past the bid's count are empty, and columns after those of the first step may be left out. A pulled bid has `none` for its first break.
     slot: Option<(usize, usize)>,
 }
 
@@ -126,6 +126,19 @@ fn columns(slots: usize) -> Vec<Column> {
 }
 
 impl Column {
+    /// Whether a cell says that the column's bid is pulled.
+    fn is_pulled(&self, text: &str) -> bool {
+        matches!((self.slot, self.kind), (Some((_, 0)), Kind::Number)) && text == NONE
+    }
+
+    /// How a pulled bid is written, where that is in this column.
+    fn pulled_hint(&self) -> String {
+        match (self.slot, self.kind) {
+            (Some((s, 0)), Kind::Number) => pulled_hint(s, Format::Csv),
+            _ => String::new(),
+        }
+    }
+
     /// Prices have the unit in the name.
     fn written(&self, unit: Unit) -> String {
         match self.kind {
@@ -135,11 +148,11 @@ impl Column {
     }
 }
 
-/// The most steps of a bid.
+/// The most steps of a bid; at least 1, so that a pulled bid has a cell.
 fn most_slots(day: &[u8]) -> usize {
     let counts =
         lines(day).flat_map(|line| (0..SCHEDULES).map(|s| word(line, count_place(s)) as usize));
-    counts.max().unwrap_or(0).min(BID_SLOTS)
+    counts.max().unwrap_or(0).clamp(1, BID_SLOTS)
 }
 
 /// The rows of all files under one header.
@@ -192,6 +205,7 @@ fn row(name: &str, day: &[u8], line: &[u8], columns: &[Column], unit: Unit) -> V
             Place::Line(place) => word(line, place),
         };
         match (column.slot, column.kind) {
+            (Some((s, 0)), Kind::Number) if word(line, count_place(s)) == 0 => NONE.to_string(),
             (Some((s, k)), _) if k >= word(line, count_place(s)) as usize => String::new(),
             (_, Kind::Price) => unit.price(value),
             (_, kind) => write_value(kind, value, Unit::Units),
@@ -280,11 +294,12 @@ fn put_row(day: &mut [u8], k: usize, found: &[Found], cells: &[String]) -> Fille
             continue;
         };
         let text = &cells[place];
-        if column.slot.is_some() && text.is_empty() {
+        if column.slot.is_some() && (text.is_empty() || column.is_pulled(text)) {
             continue;
         }
         let name = || column.written(unit);
-        let value = read_cell(column.kind, unit, text).map_err(|message| (name(), message))?;
+        let value = read_cell(column.kind, unit, text)
+            .map_err(|message| (name(), message + &column.pulled_hint()))?;
         match column.place {
             Place::Market(place) if k > 0 && word(day, place) != value => {
                 let rule = "the market is the same on every row";
@@ -316,23 +331,44 @@ fn check_day_names(names: &[String], rows: &[Row]) -> Read<()> {
 /// A bid's count is that of its filled steps, which come first.
 fn put_counts(line: &mut [u8], found: &[Found], cells: &[String]) -> Filled {
     let mut filled = [[[false; 2]; BID_SLOTS]; SCHEDULES];
+    let mut pulled = [false; SCHEDULES];
     for Found { column, place } in found {
         if let (Some((s, k)), Some((place, _))) = (column.slot, place) {
-            filled[s][k][usize::from(column.kind == Kind::Price)] = !cells[*place].is_empty();
+            let text = &cells[*place];
+            match column.is_pulled(text) {
+                true => pulled[s] = true,
+                false => filled[s][k][usize::from(column.kind == Kind::Price)] = !text.is_empty(),
+            }
         }
     }
     for (s, slots) in filled.iter().enumerate() {
-        let name = |k| format!("bid_{}_break_{}", s + 1, k + 1);
-        let count = slots.iter().take_while(|slot| **slot != [false; 2]).count();
-        if let Some(k) = slots[..count].iter().position(|slot| *slot != [true; 2]) {
-            return Err((name(k), "a bid's step has a break and a price".to_string()));
-        }
-        if let Some(k) = (count..BID_SLOTS).find(|&k| slots[k] != [false; 2]) {
-            return Err((name(k), "a step stands after an empty one".to_string()));
-        }
+        let count = count(slots, pulled[s], s).map_err(|(k, message)| {
+            let name = format!("bid_{}_break_{}", s + 1, k + 1);
+            (name, message)
+        })?;
         put_word(line, count_place(s), count as u32);
     }
     Ok(())
+}
+
+/// The count of the bid of a schedule, from 0, by which of its cells are filled; or the place of a wrong step, and a message.
+fn count(
+    slots: &[[bool; 2]; BID_SLOTS],
+    pulled: bool,
+    bid: usize,
+) -> std::result::Result<usize, (usize, String)> {
+    let count = slots.iter().take_while(|slot| **slot != [false; 2]).count();
+    if let Some(k) = slots[..count].iter().position(|slot| *slot != [true; 2]) {
+        return Err((k, "a bid's step has a break and a price".to_string()));
+    }
+    if let Some(k) = (count..BID_SLOTS).find(|&k| slots[k] != [false; 2]) {
+        return Err((k, "a step stands after an empty one".to_string()));
+    }
+    if count == 0 && !pulled {
+        let hint = pulled_hint(bid, Format::Csv);
+        return Err((0, format!("the bid has no step{hint}")));
+    }
+    Ok(count)
 }
 
 /// In dollars a price is a decimal number, with or without a dollar sign.
@@ -366,10 +402,11 @@ fn find_columns(names: &[String]) -> Read<Vec<Found>> {
                 column.name
             ));
         }
-        if place.is_none() && column.slot.is_none() {
+        if place.is_none() && column.slot.is_none_or(|(_, k)| k == 0) {
             return Err(format!(
-                "the table has no column '{}'",
-                column.written(Unit::Dollars)
+                "the table has no column '{}'{}",
+                column.written(Unit::Dollars),
+                column.pulled_hint()
             ));
         }
         found.push(Found { column, place });

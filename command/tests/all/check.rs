@@ -1,7 +1,10 @@
 //! Refusals in words.
 
 use crate::draw::{example, EXAMPLES};
-use crate::{accreditation_words, days, example_text, k10_accredited, run, stored, with_sets};
+use crate::{
+    accreditation_words, days, example_text, k10_accredited, k10_pulled, pull, run,
+    sets_of_reschedules, stored, with_pulled, with_sets,
+};
 use mewikofu::Refusal;
 use mewikofu_command::input::Input;
 use mewikofu_command::outcome::Status;
@@ -55,6 +58,81 @@ fn each_number() {
     }
 }
 
+/// The day with a bid of each line pulled, also one of schedule 1 or one that the line needs; of some all slots, of some the count alone.
+fn pulled_anyhow(mut day: Vec<u8>, seed: u64) -> Vec<u8> {
+    let lines = day.get_mut(64..).unwrap_or(&mut []);
+    for (k, line) in lines.chunks_exact_mut(660).enumerate() {
+        let draw = seed as usize + 7 * k;
+        match draw % 3 {
+            0 => put_word(line, 5 + 23 * (draw % 5), 0),
+            _ => pull(line, 1 + draw % 5),
+        }
+    }
+    day
+}
+
+/// Bids of the schedules 2 to 5 can be pulled, and no other.
+#[test]
+fn pulled_bids() {
+    for set in sets_of_reschedules() {
+        let said = run(&["check"], &k10_pulled(&set)).text();
+        assert_eq!(said, "standard input: accepted\n", "{set:?}");
+        let first = [&[1], &set[..]].concat();
+        let said = refused(&["check"], &k10_pulled(&first));
+        assert!(said.starts_with("refused 7: "), "{said}");
+    }
+}
+
+/// Each slot of a pulled bid must be 0, and what is found is said of it in tables and JSON too.
+#[test]
+fn slots_of_a_pulled_bid() {
+    for s in 2..=5 {
+        for place in 1..=22 {
+            let mut day = k10_pulled(&[2, 3, 4, 5]);
+            put_word(&mut day[64..], 5 + 23 * (s - 1) + place, 8);
+            let (slot, name) = match place {
+                1..=11 => (place, "break"),
+                _ => (place - 11, "price"),
+            };
+            let words = format!("bid of schedule {s}, slot {slot}: {name} 8; the bid's count is 0 (a pulled bid), so it must be 0\n");
+            let said = refused(&["check"], &day);
+            assert!(
+                said.starts_with("refused 10: ") && said.ends_with(&words),
+                "{said}"
+            );
+            let json = run(&["check", "--json"], &day).out;
+            let json: serde_json::Value = serde_json::from_slice(&json).unwrap();
+            let fault = &json["faults"][0];
+            assert_eq!(
+                ["number", "schedule", "slot", "value", "limit"].map(|key| fault[key].as_u64()),
+                [10, s as u64, slot as u64, 8, 0].map(Some)
+            );
+        }
+    }
+}
+
+/// The greatest break is that of the bids that are there: without the one of schedule 2, hedge and totals are above it.
+#[test]
+fn greatest_break_without_a_pulled_bid() {
+    let bids = "bid 1 = 1000@$2\nbid 2 = 3000@$5\nbid 3..5 = none";
+    let text = example_text().replace("bid 1..5 = 1000@$2 3000@$5", bids);
+    let said = run(&["make", "--check"], text.as_bytes()).text();
+    assert_eq!(said, "standard input: accepted\n");
+    let text = text.replace("bid 2 = 3000@$5\nbid 3..5", "bid 2..5");
+    let most = "the most is the greatest break of its bids, 1,000 MJ (the bids of schedules 2 to 5 were pulled)";
+    let said = refused(&["make", "--check"], text.as_bytes());
+    assert!(said.starts_with("refused 12: "), "{said}");
+    let words = format!("operating total of schedule 2: 2,000 MJ; {most}\n");
+    assert!(said.ends_with(&words), "{said}");
+    let text = text.replace("hedge       = 0", "hedge = 1001");
+    let said = refused(&["make", "--check"], text.as_bytes());
+    let words = format!("hedge: 1,001 MJ; {most}\n");
+    assert!(
+        said.starts_with("refused 11: ") && said.ends_with(&words),
+        "{said}"
+    );
+}
+
 /// The first fault found has the proved number, and an accepted day has no fault.
 #[test]
 fn first_faults_have_the_proved_number() {
@@ -63,6 +141,8 @@ fn first_faults_have_the_proved_number() {
         .map(damaged_day)
         .chain((0..200).map(valid_day))
         .chain((0..200).map(|seed| with_sets(valid_day(seed), seed)))
+        .chain((0..200).map(|seed| with_pulled(valid_day(seed), seed)))
+        .chain((0..days(500)).map(|seed| pulled_anyhow(damaged_day(seed), seed)))
         .chain(accreditation_words().map(k10_accredited))
         .chain(edge_days());
     for day in all {
@@ -87,7 +167,7 @@ fn first_faults_have_the_proved_number() {
 #[test]
 fn places_values_and_limits() {
     let line = "line 0 (participant 7, point 3, INJ), ";
-    let cases: [(usize, u32, &str); 25] = [
+    let cases: [(usize, u32, &str); 28] = [
         (0, 65, "the header's line count is 65; it must be 1 to 64"),
         (1, 20, "the header's offset of the market table is 20; with 1 line it must be 16"),
         (3, 725, "the header's file length is 725; with 1 line it must be 724"),
@@ -101,7 +181,10 @@ fn places_values_and_limits() {
         (19, 64, "*accreditation: 64; it must be 0, 1 or 32 to 63"),
         (19, u32::MAX, "*accreditation: 4,294,967,295; it must be 0, 1 or 32 to 63"),
         (21, 12, "*bid of schedule 1: its count is 12; it must be 1 to 11"),
-        (44, 0, "*bid of schedule 2: its count is 0; it must be 1 to 11"),
+        (21, 0, "*bid of schedule 1: its count is 0; it must be 1 to 11, since only bids of the schedules 2 to 5 can be pulled"),
+        (44, 12, "*bid of schedule 2: its count is 12; it must be 1 to 11, or 0 for a pulled bid"),
+        (113, u32::MAX, "*bid of schedule 5: its count is 4,294,967,295; it must be 1 to 11, or 0 for a pulled bid"),
+        (44, 0, "*bid of schedule 2, slot 1: break 1,000; the bid's count is 0 (a pulled bid), so it must be 0"),
         (22, 0, "*bid of schedule 1, slot 1: break 0 MJ; it must be above 0"),
         (46, 1000, "*bid of schedule 2, slot 2: break 1,000 MJ; it must be above the one before, 1,000 MJ"),
         (23, 200_000_001, "*bid of schedule 1, slot 2: break 200,000,001 MJ; the most is 200,000,000 MJ"),

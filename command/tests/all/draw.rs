@@ -1,7 +1,10 @@
 //! The drawn page. Expected figures are the kept reports' and the reference implementation's.
 
 use crate::draw_page::{points, read, Element};
-use crate::{accredited_schedules, k10_accredited, run, run_with, stored, with_sets};
+use crate::{
+    accredited_schedules, k10_accredited, k10_pulled, run, run_with, sets_of_reschedules, stored,
+    with_pulled, with_sets,
+};
 use mewikofu::Accreditation;
 use mewikofu_command::draw::page;
 use mewikofu_command::figures::Figures;
@@ -12,12 +15,13 @@ use reference::layout::{signed, word, SCHEDULES};
 use reference::view::{DayView, View};
 use std::collections::BTreeSet;
 
-pub const EXAMPLES: [&str; 6] = [
+pub const EXAMPLES: &[&str] = &[
     "k10",
     "both-sides",
     "withdrawals",
     "rules",
     "accreditation",
+    "pulled",
     "winter",
 ];
 
@@ -34,9 +38,13 @@ fn days(count: u64) -> Vec<Vec<u8>> {
     let examples = EXAMPLES.iter().map(|name| example(name));
     let generated = (0..count).flat_map(|seed| {
         let days = [valid_day(seed), small_day(seed)];
-        match seed % 2 {
+        let days = match seed % 2 {
             0 => days,
             _ => days.map(|day| with_sets(day, seed)),
+        };
+        match seed % 3 {
+            0 => days.map(|day| with_pulled(day, seed)),
+            _ => days,
         }
     });
     examples
@@ -374,11 +382,21 @@ impl PriceAxis {
     }
 }
 
+/// A schedule's heading in a line's table and plots, from the count of its bid.
+fn expected_heading(day: &[u8], line: usize, s: usize) -> String {
+    let pulled = match line_word(day, line, 5 + 23 * s) {
+        0 => ", bid pulled",
+        _ => "",
+    };
+    format!("Schedule {}{pulled}", s + 1)
+}
+
 /// In each schedule's plot: step prices, market price, cap where it applies, hatched exactly the steps that aren't paid in it, and what is constrained on.
 #[test]
 fn price_plots() {
     let (mut hatched, mut filled, mut outlined, mut capped, mut broken, mut cut_down) =
         (0, 0, 0, 0, 0, 0);
+    let mut pulled = 0;
     for day in days(25) {
         let page = read(&drawn(&day, 0));
         for (line, steps) in steps_of(&day).into_iter().enumerate() {
@@ -434,6 +452,12 @@ fn price_plots() {
                 }
                 drawn.sort_by(|one, other| one.0 .0 .0.total_cmp(&other.0 .0 .0));
                 assert_eq!(drawn.len(), steps.len());
+                let heading = expected_heading(&day, line, s);
+                assert_eq!(plots.of_class("schedule")[s].text, heading);
+                if heading.ends_with("pulled") {
+                    assert!(drawn.iter().all(|(_, missing)| *missing == 1));
+                    pulled += 1;
+                }
                 for (((from, to), missing), step) in drawn.into_iter().zip(&steps) {
                     assert_eq!(missing, step.flag[s]);
                     assert!(near(from.0, x(step.upper - step.width)) && near(to.0, x(step.upper)));
@@ -487,7 +511,7 @@ fn price_plots() {
             }
         }
     }
-    let counts = [hatched, filled, outlined, capped, cut_down];
+    let counts = [hatched, filled, outlined, capped, cut_down, pulled];
     assert!(counts.iter().all(|&count| count > 100), "{counts:?}");
     assert_eq!(broken, 2 * SCHEDULES);
 }
@@ -554,6 +578,52 @@ fn accreditation() {
                 true => assert!(areas.is_empty(), "{word}"),
                 false => assert_eq!(areas, ["not-accredited"], "{word}"),
             }
+        }
+    }
+}
+
+/// A pulled bid is told in the line's sentence, above its table's columns and above its plot, where its one price is dashed.
+#[test]
+fn pulled_bids() {
+    for set in sets_of_reschedules() {
+        let day = k10_pulled(&set);
+        let page = read(&drawn(&day, 0));
+        let line = page.by_id("line-0");
+        let told = match &set[..] {
+            [] => String::new(),
+            [one] => format!(" The bid of schedule {one} was pulled."),
+            [2, 3] => " The bids of schedules 2 and 3 were pulled.".to_string(),
+            [2, 3, 4, 5] => " The bids of schedules 2 to 5 were pulled.".to_string(),
+            _ => " The bids of schedules ".to_string(),
+        };
+        let said = &line.named("p")[0].text;
+        let start = format!("Accredited. No hedge. 2 steps.{told}");
+        assert!(said.starts_with(&start), "{said}");
+        let words = line.named("desc")[0].whole_text();
+        assert_eq!(words.contains("pulled"), !set.is_empty(), "{words}");
+        assert!(words.contains(told.trim_end()), "{words}");
+        let legend = page.of_class("legend")[1].whole_text();
+        let sign = match set.is_empty() {
+            true => "price past the bid's last step (flag 1)",
+            false => "price past the bid's last step, or with the bid pulled (flag 1)",
+        };
+        assert!(legend.contains(sign), "{legend}");
+        let table = line.of_class("changes")[0].of_class("schedule");
+        let plots = line.of_class("prices")[0].of_class("schedule");
+        for s in 0..SCHEDULES {
+            let heading = expected_heading(&day, 0, s);
+            assert_eq!((&table[s].text, &plots[s].text), (&heading, &heading));
+            let plot = line.named("g")[s];
+            let drawn: Vec<&str> = plot
+                .of_class("price")
+                .iter()
+                .map(|path| path.attribute("class"))
+                .collect();
+            let due = match set.contains(&(s + 1)) {
+                true => "price missing",
+                false => "price",
+            };
+            assert_eq!(drawn, [due], "{set:?}");
         }
     }
 }

@@ -1,13 +1,15 @@
 //! Explanations.
 
-use crate::{accredited_schedules, k10_accredited, run, stored, with_sets};
+use crate::{
+    accredited_schedules, k10_accredited, k10_pulled, run, stored, with_pulled, with_sets,
+};
 use mewikofu_command::explain::{Explained, Reason, Rule};
 use mewikofu_command::figures::Figures;
 use reference::generate::{small_day, small_set_day, valid_day};
 use reference::layout::{put_word, word};
 use reference::view::view;
 
-/// Days with clawback on and off, and with accreditation by line and by schedule.
+/// Days with clawback on and off, with accreditation by line and by schedule, and with bids pulled.
 fn days() -> impl Iterator<Item = Vec<u8>> {
     (0..crate::days(250)).map(|seed| {
         let mut day = if seed % 5 == 0 {
@@ -16,8 +18,12 @@ fn days() -> impl Iterator<Item = Vec<u8>> {
             small_day(seed)
         };
         put_word(&mut day, 15, u32::from(seed % 4 != 0));
-        match seed % 3 {
+        let day = match seed % 3 {
             0 => with_sets(day, seed),
+            _ => day,
+        };
+        match seed % 7 {
+            0..3 => with_pulled(day, seed),
             _ => day,
         }
     })
@@ -176,6 +182,100 @@ fn k10() {
 fn told(arguments: &[&str], day: &[u8]) -> String {
     let text = run(&[&["explain"], arguments].concat(), day).text();
     text.split_whitespace().collect::<Vec<_>>().join(" ")
+}
+
+/// In a schedule with a pulled bid every step is flagged and has the last price of the nearest earlier bid with steps.
+#[test]
+fn pulled_bids() {
+    let mut counts = [0; 3];
+    for day in days() {
+        let figures = Figures::new(&day).unwrap();
+        for reason in &Explained::new(&day, &figures).unwrap().reasons {
+            let line = &day[64 + 660 * reason.line..];
+            let count = |bid: &usize| word(line, 5 + 23 * bid) as usize;
+            let bid = (0..=reason.s).rev().find(|bid| count(bid) > 0).unwrap();
+            assert_eq!(reason.bid, bid);
+            counts[(reason.s - bid).min(2)] += 1;
+            if bid < reason.s {
+                let last = word(line, 5 + 23 * bid + 11 + count(&bid));
+                assert_eq!((reason.bid_price, reason.view.flag[reason.s]), (last, 1));
+            }
+        }
+    }
+    assert!(counts.iter().all(|&count| count > 100), "{counts:?}");
+}
+
+/// K10's day with $5 as the bids' last price; in schedule 4 its step 1 falls.
+#[test]
+fn pulled_bid_sentences() {
+    let stands = "$5.0000, stands and is marked as missing";
+    let price = "The market price is $3.0000, so the rate is $5.0000 - $3.0000 = $2.0000.";
+    for (pulled, line, sentence) in [
+        (
+            &[4][..],
+            "The bid of schedule 4 was pulled.",
+            "the bid of schedule 4 was pulled, so the last price of the bid of schedule 3",
+        ),
+        (
+            &[3, 4],
+            "The bids of schedules 3 and 4 were pulled.",
+            "the bids of schedules 3 and 4 were pulled, so the last price of the bid of schedule 2",
+        ),
+        (
+            &[2, 4, 5],
+            "The bids of schedules 2, 4 and 5 were pulled.",
+            "the bid of schedule 4 was pulled, so the last price of the bid of schedule 3",
+        ),
+        (
+            &[2, 3, 4, 5],
+            "The bids of schedules 2 to 5 were pulled.",
+            "the bids of schedules 2 to 4 were pulled, so the last price of the bid of schedule 1",
+        ),
+    ] {
+        let place = ["--line", "0", "--step", "1", "--schedule", "4"];
+        let text = told(&place, &k10_pulled(pulled));
+        for words in [
+            format!("no hedge, 2 steps. {line} Schedule 4: the line is charged $1.00."),
+            format!("Price: {sentence}, {stands}. {price}"),
+        ] {
+            assert!(text.contains(&words), "{words}\n{text}");
+        }
+    }
+    // A schedule with a bid is told as ever, and so is a line without a pulled one.
+    let text = told(
+        &["--line", "0", "--step", "1", "--schedule", "2"],
+        &k10_pulled(&[4]),
+    );
+    assert!(
+        text.contains("Price: the bid of schedule 2 asks $5.0000 for this step."),
+        "{text}"
+    );
+    let text = told(&[], &stored("examples/k10.day"));
+    assert!(!text.contains("pulled"), "{text}");
+}
+
+/// The cap comes after the price taken over, and the payment is the modified one where clawback is on.
+#[test]
+fn pulled_bid_capped() {
+    let place = ["--line", "0", "--step", "1", "--schedule", "4"];
+    for (cap, words) in [
+        (
+            40_000,
+            "; the cap lowers it to $4.0000. The market price is $3.0000, so the rate is $4.0000 - $3.0000 = $1.0000.",
+        ),
+        (60_000, "; the cap of $6.0000 doesn't change it. The market price is $3.0000, so the rate is $5.0000"),
+    ] {
+        let mut day = k10_pulled(&[4]);
+        put_word(&mut day, 12, 1);
+        put_word(&mut day, 14, cap);
+        put_word(&mut day, 15, 1);
+        let text = told(&place, &day);
+        let words = format!("schedule 3, $5.0000, stands and is marked as missing{words}");
+        assert!(text.contains(&words), "{words}\n{text}");
+        let words = "charged the rate of the schedule that it rose in. That is -(0.5 x $2.0000) = -$1.00. Final payment: clawback is on and the price is marked as \
+                     missing, so it is the modified payment: -$1.00.";
+        assert!(text.ends_with(words), "{words}\n{text}");
+    }
 }
 
 #[test]

@@ -15,6 +15,7 @@ mod tables;
 mod texts;
 
 use reference::layout::put_word;
+use reference::refusal::cut_number;
 use std::io::Write;
 use std::path::Path;
 use std::process::{Command, Stdio};
@@ -110,6 +111,39 @@ fn with_sets(mut day: Vec<u8>, seed: u64) -> Vec<u8> {
     let lines = day[64..].chunks_exact_mut(660).enumerate();
     for (k, line) in lines.filter(|(k, _)| k % 8 != 7) {
         put_word(line, 3, 32 + (7 * seed as u32 + 11 * k as u32) % 32);
+    }
+    day
+}
+
+/// Makes the bid of schedule s, from 1, a pulled one: its count and its slots are 0.
+fn pull(line: &mut [u8], s: usize) {
+    line[20 + 92 * (s - 1)..20 + 92 * s].fill(0);
+}
+
+/// K10's day with the bids of these schedules pulled.
+fn k10_pulled(schedules: &[usize]) -> Vec<u8> {
+    let mut day = stored("examples/k10.day");
+    schedules.iter().for_each(|&s| pull(&mut day[64..], s));
+    day
+}
+
+/// The sets of the schedules 2 to 5.
+fn sets_of_reschedules() -> impl Iterator<Item = Vec<usize>> {
+    (0..16).map(|set| (2..=5).filter(|s| set >> (s - 2) & 1 == 1).collect())
+}
+
+/// The day with bids pulled, by the sets of the schedules 2 to 5 in turn; but not a bid without which the line would be refused, since its totals or
+/// its hedge are above the breaks of the others.
+fn with_pulled(mut day: Vec<u8>, seed: u64) -> Vec<u8> {
+    let sets: Vec<_> = sets_of_reschedules().collect();
+    for (k, line) in day[64..].chunks_exact_mut(660).enumerate() {
+        for &s in &sets[(5 * seed as usize + 3 * k) % 16] {
+            let mut pulled = line.to_vec();
+            pull(&mut pulled, s);
+            if cut_number(&pulled) == 0 {
+                line.copy_from_slice(&pulled);
+            }
+        }
     }
     day
 }

@@ -1,6 +1,6 @@
 //! From text to day files.
 
-use crate::{example_text, run, stored};
+use crate::{example_text, pull, run, stored};
 use mewikofu_command::make::make;
 use std::fmt::Write;
 
@@ -177,6 +177,35 @@ fn sides_marks_and_bids_out_of_range() {
     assert_eq!(line[51..74], bid);
 }
 
+/// `none` is a pulled bid. The file is made for schedule 1 too, which has no pulled bid, and the message says where it is.
+#[test]
+fn pulled_bids() {
+    let day = make(TEXT.as_bytes()).unwrap();
+    for (old, new, schedules) in [
+        ("bid 3 = 1000@20000\n", "bid 3 = none\n", &[3][..]),
+        ("bid 5 = 1000@20000\n", "bid 5 =\tnone  # pulled\n", &[5]),
+        (
+            "bid 2 = 1000@20000\nbid 3 = 1000@20000\nbid 4 = 1000@20000\n",
+            "bid 2..4 = none\n",
+            &[2, 3, 4],
+        ),
+    ] {
+        let text = TEXT.replace(old, new);
+        assert_ne!(text, TEXT);
+        let mut pulled = day.clone();
+        schedules.iter().for_each(|&s| pull(&mut pulled[64..], s));
+        assert!(run(&["make"], text.as_bytes()).output() == pulled, "{new}");
+    }
+    let text = TEXT.replace("bid 1 = 1000@20000 3000@50000", "bid 1 = none");
+    let mut pulled = day;
+    pull(&mut pulled[64..], 1);
+    let run = run(&["make"], text.as_bytes());
+    assert!(run.status == 1 && run.out == pulled, "{}", run.message);
+    let why = "refused 7: a bid's count is 0 in schedule 1, or above 11: line 0 (participant 7, point 3, INJ), bid of schedule 1: its count is 0; \
+               it must be 1 to 11, since only bids of the schedules 2 to 5 can be pulled";
+    assert_eq!(run.message, format!("mewikofu: standard input: {why}\n"));
+}
+
 #[test]
 fn wrong_rows() {
     let cases = [
@@ -250,7 +279,37 @@ fn wrong_rows() {
         (
             12,
             "bid 1 =",
-            "'bid 1' has no value; a bid without steps is none",
+            "'bid 1' has no value; a step is break@price, such as 1000@20000",
+        ),
+        (
+            14,
+            "bid 3 =",
+            "'bid 3' has no value; a step is break@price, such as 1000@20000; a pulled bid is 'none'",
+        ),
+        (
+            12,
+            "bid 1 = pulled",
+            "'pulled' is not break@price, such as 1000@20000",
+        ),
+        (
+            14,
+            "bid 3 = pulled",
+            "'pulled' is not break@price, such as 1000@20000; a pulled bid is 'none'",
+        ),
+        (
+            14,
+            "bid 3 = 0",
+            "'0' is not break@price, such as 1000@20000; a pulled bid is 'none'",
+        ),
+        (
+            14,
+            "bid 3 = none 1@2",
+            "'none 1 @' is not break@price, such as 1000@20000",
+        ),
+        (
+            14,
+            "bid 3 = 1@2 none",
+            "'none' is not break@price, such as 1000@20000",
         ),
         (
             12,

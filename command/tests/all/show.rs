@@ -1,6 +1,9 @@
 //! From day files to text and back.
 
-use crate::{accreditation_words, accredited_schedules, example_text, k10_accredited, run, stored};
+use crate::{
+    accreditation_words, accredited_schedules, example_text, k10_accredited, k10_pulled, pull, run,
+    sets_of_reschedules, stored, with_pulled,
+};
 use mewikofu_command::make::make;
 use mewikofu_command::output::Unit;
 use mewikofu_command::show::show;
@@ -97,6 +100,43 @@ fn accreditation() {
     assert_eq!(shown(35), "accredited = in 1,2");
     assert_eq!(shown(61), "accredited = in 1,3..5");
     assert_eq!(shown(63), "accredited = in 1..5");
+}
+
+/// A pulled bid is shown as such, one with a slot that isn't 0 by its steps and its count.
+#[test]
+fn pulled_bids() {
+    for set in sets_of_reschedules() {
+        let day = k10_pulled(&set);
+        round_trip(&day);
+        let text = show(&day, Unit::Units).unwrap();
+        for s in 1..=5 {
+            let bid = match set.contains(&s) {
+                true => "none",
+                false => "1000@20000 3000@50000",
+            };
+            assert!(text.contains(&format!("\nbid {s} = {bid}\n")), "{text}");
+        }
+        assert!(!text.contains("count"), "{text}");
+        for place in (0..23 * 5).map(|place| 5 + place) {
+            let mut day = day.clone();
+            put_word(&mut day[64..], place, 7);
+            round_trip(&day);
+        }
+    }
+    (0..200).for_each(|seed| round_trip(&with_pulled(valid_day(seed), seed)));
+    let mut day = k10_pulled(&[2, 4]);
+    put_word(&mut day[64..], 28 + 12, 9);
+    put_word(&mut day[64..], 74, 2);
+    pull(&mut day[64..], 1);
+    round_trip(&day);
+    let text = show(&day, Unit::Units).unwrap();
+    for rows in [
+        "\nbid 1 = none\nbid 2 = 0@9\n",
+        "\nbid 4 = 0@0 0@0\n",
+        "\ncount 2 = 0\npricing 1",
+    ] {
+        assert!(text.contains(rows), "{rows}\n{text}");
+    }
 }
 
 /// K10's day as shown has the rows of the example without its comments, one schedule a row.

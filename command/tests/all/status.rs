@@ -1,7 +1,7 @@
 //! Exit statuses: 0 accepted, 1 refused, 2 usage, input or output error.
 
 use crate::draw::EXAMPLES;
-use crate::{program, run, run_with, stored};
+use crate::{k10_pulled, program, run, run_with, stored};
 use std::fs::OpenOptions;
 use std::process::{Command, Stdio};
 
@@ -27,8 +27,8 @@ fn shell(script: &str) -> (i32, String) {
 
 #[test]
 fn accepted_and_refused() {
-    let accepted = EXAMPLES.map(|day| (day, 0));
-    for (day, status) in accepted.into_iter().chain([("refused", 1)]) {
+    let accepted = EXAMPLES.iter().map(|day| (*day, 0));
+    for (day, status) in accepted.chain([("refused", 1)]) {
         let day = stored(&format!("examples/{day}.day"));
         for command in ["settle", "steps", "check"] {
             for format in [&[][..], &["--csv"], &["--json"]] {
@@ -36,6 +36,26 @@ fn accepted_and_refused() {
                 assert_eq!(run.status, status, "{command} {format:?}: {}", run.message);
             }
         }
+    }
+}
+
+/// A pulled bid is no error of any command; one of schedule 1 is refused by all that settle.
+#[test]
+fn pulled_bids() {
+    for (pulled, status) in [(&[2, 3, 4, 5][..], 0), (&[4], 0), (&[1], 1)] {
+        let day = k10_pulled(pulled);
+        for command in ["settle", "steps", "check", "explain"] {
+            for format in [&[][..], &["--csv"], &["--json"]] {
+                let run = run(&[&[command], format].concat(), &day);
+                assert_eq!(run.status, status, "{command} {format:?}: {}", run.message);
+            }
+        }
+        for format in [&[][..], &["--csv"], &["--json"]] {
+            let cut = run(&[&["cut", "--line", "0"], format].concat(), &day);
+            assert_eq!(cut.status, status, "{format:?}: {}", cut.message);
+            assert_eq!(run(&[&["show"], format].concat(), &day).status, 0);
+        }
+        assert_eq!(run(&["draw"], &day).status, status);
     }
 }
 

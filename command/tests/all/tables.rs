@@ -1,6 +1,9 @@
 //! CSV and JSON, there and back.
 
-use crate::{accreditation_words, accredited_schedules, k10_accredited, run, stored, with_sets};
+use crate::{
+    accreditation_words, accredited_schedules, k10_accredited, k10_pulled, run,
+    sets_of_reschedules, stored, with_pulled, with_sets,
+};
 use reference::generate::{damaged_day, valid_day};
 use reference::layout::{book_length, signed, word, MOST_LINES};
 use reference::settle::settle;
@@ -28,6 +31,7 @@ fn days_there_and_back() {
     for seed in 0..60 {
         let day = match seed % 3 {
             0 => with_sets(valid_day(seed), seed),
+            1 => with_pulled(valid_day(seed), seed),
             _ => valid_day(seed),
         };
         for unit in [&[][..], &["--units"]] {
@@ -68,6 +72,104 @@ fn accreditation() {
     }
     let table = String::from_utf8(run(&["show", "--csv"], &k10_accredited(61)).output()).unwrap();
     assert!(table.contains(",INJ,\"in 1,3..5\",0,"), "{table}");
+}
+
+/// A pulled bid goes there and back, one of schedule 1 too. It is `none` for its first break in a table, and an empty array in JSON.
+#[test]
+fn pulled_bids() {
+    let first = sets_of_reschedules().map(|set| [&[1], &set[..]].concat());
+    for set in sets_of_reschedules().chain(first) {
+        let day = k10_pulled(&set);
+        let status = i32::from(set.contains(&1));
+        for format in ["--csv", "--json"] {
+            let shown = run(&["show", format], &day).output();
+            let made = run(&["make", format], &shown);
+            assert_eq!(made.status, status, "{set:?}: {}", made.message);
+            assert!(made.out == day, "{set:?}");
+        }
+        let table = run(&["show", "--csv"], &day).output();
+        let (names, rows) = rows(&table);
+        let value = json(&run(&["show", "--json"], &day).output());
+        for s in 1..=5 {
+            let names_of = |slot| {
+                let price = format!("bid_{s}_price_{slot}_dollars");
+                [format!("bid_{s}_break_{slot}"), price]
+            };
+            let cells = |slot| names_of(slot).map(|name| cell(&names, &rows[0], &name));
+            let steps = &value["lines"][0]["bids"][s - 1];
+            if set.contains(&s) {
+                assert_eq!((cells(1), steps), (["none", ""], &serde_json::json!([])));
+            } else {
+                assert_eq!(cells(1), ["1000", "2.0000"]);
+                assert_eq!(steps.as_array().unwrap().len(), 2);
+            }
+            if set.len() < 5 {
+                let due = if set.contains(&s) {
+                    ["", ""]
+                } else {
+                    ["3000", "5.0000"]
+                };
+                assert_eq!(cells(2), due);
+            }
+        }
+    }
+}
+
+/// A bid without a step isn't taken for a pulled one.
+#[test]
+fn wrong_pulled_bids() {
+    let table = run(&["show", "--csv"], &k10_pulled(&[3])).text();
+    let message = |old: &str, new: &str| {
+        assert!(table.contains(old), "{old}");
+        let table = table.replacen(old, new, 1);
+        run(&["make", "--csv"], table.as_bytes()).failure()
+    };
+    for (new, why) in [
+        (
+            ",,,,",
+            "break_1: the bid has no step; a pulled bid is 'none'",
+        ),
+        ("none,2,,", "break_1: a bid's step has a break and a price"),
+        ("none,,3000,5", "break_2: a step stands after an empty one"),
+        (
+            "None,,,",
+            "break_1: 'None' is not a whole number; a pulled bid is 'none'",
+        ),
+        ("1000,2,none,", "break_2: 'none' is not a whole number"),
+    ] {
+        let (old, new) = match new.strip_prefix(",,,,") {
+            Some(_) => ("none,,,", ",,,"),
+            None => ("none,,,", new),
+        };
+        assert_eq!(message(old, new), format!("row 2, bid_3_{why}\n"));
+    }
+    assert_eq!(
+        message("1000,2.0000,3000,5.0000", ",,,"),
+        "row 2, bid_1_break_1: the bid has no step\n"
+    );
+    assert_eq!(
+        message("bid_3_break_1,", "bid_3_break_3,"),
+        "the table has no column 'bid_3_break_1'; a pulled bid is 'none'\n"
+    );
+    assert_eq!(
+        message("bid_3_price_1_dollars,", "bid_3_price_3_dollars,"),
+        "the table has no column 'bid_3_price_1_dollars'\n"
+    );
+    let value = json(&run(&["show", "--json"], &k10_pulled(&[3])).output());
+    for (bid, wrong, hint) in [
+        (2, "null", "; a pulled bid is []"),
+        (2, "\"none\"", "; a pulled bid is []"),
+        (4, "{}", "; a pulled bid is []"),
+        (0, "null", ""),
+    ] {
+        let mut value = value.clone();
+        value["lines"][0]["bids"][bid] = json(wrong.as_bytes());
+        let why = run(&["make", "--json"], value.to_string().as_bytes()).failure();
+        assert_eq!(
+            why,
+            format!("lines[0].bids[{bid}]: not an array of steps{hint}\n")
+        );
+    }
 }
 
 /// A refused day is either said so that the same bytes are made of it, or not said.

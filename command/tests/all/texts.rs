@@ -1,7 +1,7 @@
 //! What `settle`, `steps` and `cut` print, byte for byte.
 
 use crate::draw::EXAMPLES;
-use crate::{run, stored};
+use crate::{k10_pulled, run, stored, with_pulled};
 use mewikofu_command::{cut, figures::Figures, settle, steps};
 use reference::generate::{damaged_day, damaged_line, line, small_day, valid_day};
 use reference::report::{cut_report, settle_report, steps_report};
@@ -12,7 +12,7 @@ fn kept(path: &str) -> String {
 
 #[test]
 fn kept_reports() {
-    for name in EXAMPLES.into_iter().chain(["refused"]) {
+    for name in EXAMPLES.iter().chain(&["refused"]) {
         let run = run(&["settle"], &stored(&format!("examples/{name}.day")));
         assert_eq!(
             String::from_utf8(run.out).unwrap(),
@@ -32,7 +32,8 @@ fn kept_reports() {
 #[test]
 fn reports_are_the_references() {
     for seed in 0..400 {
-        for day in [valid_day(seed), damaged_day(seed)] {
+        let pulled = with_pulled(valid_day(seed), seed);
+        for day in [valid_day(seed), damaged_day(seed), pulled] {
             let text = match mewikofu::settle(&day) {
                 Ok(book) => settle::report(&book),
                 Err(refusal) => format!("refused {}\n", refusal.number()),
@@ -45,9 +46,10 @@ fn reports_are_the_references() {
 #[test]
 fn steps_are_the_references() {
     for seed in 0..300 {
-        let day = small_day(seed);
-        let figures = Figures::new(&day).unwrap();
-        assert_eq!(steps::text(&figures), steps_report(&day), "{seed}");
+        for day in [small_day(seed), with_pulled(small_day(seed), seed)] {
+            let figures = Figures::new(&day).unwrap();
+            assert_eq!(steps::text(&figures), steps_report(&day), "{seed}");
+        }
     }
 }
 
@@ -62,6 +64,14 @@ fn cuts_are_the_references() {
             assert_eq!(text, cut_report(&bytes), "{seed}");
         }
     }
+}
+
+/// K10's bids of $2 up to 1000 and $5 up to 3000, pulled in the schedules 3 and 4: every step has $5 there and is flagged.
+#[test]
+fn cut_of_pulled_bids() {
+    let text = run(&["cut", "--line", "0"], &k10_pulled(&[3, 4])).text();
+    let rows = "cut 2\n1000 20000 20000 50000 50000 20000\n3000 50000 50000 50000 50000 50000\n";
+    assert_eq!(text, format!("{rows}flags 0 0 3 3 0\nmissing 0 0 2 2 0\n"));
 }
 
 /// By the program: generated days and lines, and the lines of a day by their numbers.

@@ -17,7 +17,8 @@ use Rattle.rules.specs.Worked.Figures.{k10Day}
 use Rattle.rules.specs.Worked.Base2.{base2Words, base2Day}
 use Rattle.rules.specs.Worked.Reschedule.{rescheduleWords, rescheduleDay}
 use Rattle.rules.specs.Worked.Lemma.{base-2-accepted}
-use Rattle.rules.specs.Worked.Later.{reschedule-accepted}
+use Rattle.rules.specs.Worked.Pulled0.{pulled0Words, pulled0Day}
+use Rattle.rules.specs.Worked.Later.{reschedule-accepted, pulled-0-accepted}
 use Rattle.laws.specs.Folds.{sum-same}
 use Rattle.cutter.specs.Certificate.{widthAt}
 use Rattle.certificate.specs.Certificate.{Certified}
@@ -47,6 +48,13 @@ unfolding rescheduleWords rescheduleDay
 reschedule-certified b l =
     certified rescheduleDay b (bookAfter rescheduleDay b) (viewAnswer rescheduleDay) (λ k. cutAnswer (lineAt rescheduleDay k))
     reschedule-accepted l refl (λ k j. refl) (λ k. refl)
+
+-- and one with bids that are pulled in a reschedule, on both sides (document 02, F-6; `pulled-0` in rules)
+pub pulled-certified : (b : List ℕ) → 264 ≤ length b → Certified pulled0Day (bookAfter pulled0Day b) (viewAnswer pulled0Day) (λ k. cutAnswer (lineAt pulled0Day k))
+unfolding pulled0Words pulled0Day
+pulled-certified b l =
+    certified pulled0Day b (bookAfter pulled0Day b) (viewAnswer pulled0Day) (λ k. cutAnswer (lineAt pulled0Day k))
+    pulled-0-accepted l refl (λ k j. refl) (λ k. refl)
 
 -- the cutter alone covers a line: its own widths add up to the greatest break
 pub cutter-covers : (d book : List ℕ) (view : ℕ → ℕ → View) (cut : ℕ → Cut) → Certified d book view cut → (k : ℕ) → k < lineCount d → sumTo (cut k .count) (widthAt (cut k)) ≡ greatestBreak (lineAt d k)

@@ -8,7 +8,7 @@ use lib.ListN.{length, getD}
 use lib.Dec.{eqb}
 use borrow.Author.Tests.{eq-eqb, eqb-true}
 use Rattle.rules.specs.Fold.{before, sumTo}
-use Rattle.rules.specs.Layout.{side}
+use Rattle.rules.specs.Layout.{side, bidCount}
 use Rattle.rules.specs.Steps.{ends, stepCount, upperEnd, greatestBreak, price, flag}
 use Rattle.rules.specs.Refusals.{cutFault, outOfOrder}
 use Rattle.rules.specs.Cutting.{prices, flags, flagWord, missing, priceRow, cutOf, cutRefused, cutAnswer}
@@ -17,7 +17,7 @@ use Rattle.laws.specs.Folds.{orElse-both, sum-none, sum-suc, sum-same, at-five}
 use Rattle.laws.specs.Accepted.{AcceptedLine, accepted-line}
 use Rattle.cutter.specs.Lists.{in-at, place-of, rises-at, rises-mono}
 use Rattle.cutter.specs.Ends.{EndOf, end-of, of-end, ends-rise, count-most, count-some, last-is}
-use Rattle.cutter.specs.Prices.{PriceRule, price-rule, price-order, flag-stays, prices-length, prices-at, flags-length, flags-at, flags-most}
+use Rattle.cutter.specs.Prices.{PriceRule, price-rule, first-flag, price-order, flag-stays, prices-length, prices-at, flags-length, flags-at, flags-most}
 use Rattle.cutter.specs.Arrays.{bitAt, padded-at, padded-length, rows-at, bits-at, sum-places}
 
 -- the answer's upper end of step k, the one before (0 before the first), and the width
@@ -162,7 +162,7 @@ certified-whole w h =
           ∙ telescopes (stepCount w) (upperEnd w) (end-rises w h)
           ∙ before-last (stepCount w) (upperEnd w) (count-some w h)
           ∙ last-is w h;
-      priced = λ s k a b. rw (end-at w h k, price-at w h s k a b, flag-at w h s k a b) (price-rule w s (upperEnd w k));
+      priced = λ s k a b. rw (end-at w h k, price-at w h s k a b, flag-at w h s k a b) (price-rule w h s (upperEnd w k) a);
       run =
           λ s j k a l b e.
           let m = end-mono w h j k l b in
@@ -181,6 +181,15 @@ certified w r e n =
     let f = fault-none w (sym (ap (λ (c : Cut). c .number) e) ∙ n) in
     let h = accepted-line w (orElse-both _ _ f .right) in
     subst (λ (c : Cut). CutterCertificate w c) (sym (e ∙ answer-whole w f)) (certified-whole w h)
+
+-- so the answer says which bids were pulled: those whose first step is flagged (the converse is in `priced`, by `pulled-rule`)
+pub pulled-seen : (w : List ℕ) (r : Cut) → r ≡ cutAnswer w → r .number ≡ 0 → (s : ℕ) → s < 5 → flagAt r s 0 ≡ 1 → bidCount w s ≡ 0
+unfolding cutFault
+pulled-seen w r e n s l g =
+    let f = fault-none w (sym (ap (λ (c : Cut). c .number) e) ∙ n) in
+    let h = accepted-line w (orElse-both _ _ f .right) in
+    let q = subst (λ (c : Cut). flagAt c s 0 ≡ 1) (e ∙ answer-whole w f) g in
+    first-flag w h s l (sym (flag-at w h s 0 l (count-some w h)) ∙ q)
 
 -- an answer has at most 56 steps, a refused one too
 count-by : (w : List ℕ) (t : Bool) → eqb (cutFault w) 0 ≡ t → cond t (cutOf w) (cutRefused (cutFault w)) .count ≤ 56

@@ -109,7 +109,7 @@ count-most w h =
 pub count-some : (w : List ℕ) → AcceptedLine w → 0 < stepCount w
 unfolding stepCount
 count-some w h =
-    let p = place-of (of-end w (bidBreak w 0 0) (of-break 0 0 (omega arith) (h .bids 0 (omega arith) .count-least) refl)) in
+    let p = place-of (of-end w (bidBreak w 0 0) (of-break 0 0 (omega arith) (h .bids 0 (omega arith) .count-first refl) refl)) in
     let a = p .below in
     omega arith
 

@@ -2,7 +2,7 @@
 use Prim.Native.Nat.{ℕ, zero, suc, _-_, _≤_, _<_}
 use native.Mathlib.Omega.{arith}
 use native.Mathlib.Decide.{decLt}
-use mathlib.Core.Path.{_≡_}
+use mathlib.Core.Path.{_≡_, refl, _∙_, ap}
 use mathlib.Core.Bool.{Bool, true, false, cond}
 use mathlib.Core.List.{List}
 use lib.ListN.{length, getD, length-map, List·getD-eq-default}
@@ -10,29 +10,55 @@ use lib.Dec.{eqb, ltb}
 use borrow.Author.Tests.{le-ltb, ltb-false}
 use Rattle.rules.specs.Layout.{side, bidCount, bidBreak, bidPrice}
 use Rattle.rules.specs.Refusals.{outOfOrder}
-use Rattle.rules.specs.Steps.{ends, stepCount, upperEnd, bidStep, price, flag}
+use Rattle.rules.specs.Steps.{ends, stepCount, upperEnd, bidStep, source, lastPrice, price, flag}
 use Rattle.rules.specs.Cutting.{prices, flags}
 use Rattle.laws.specs.Accepted.{AcceptedLine}
+use Rattle.laws.specs.Sources.{Nearest, nearest, nearest-same}
 use Rattle.cutter.specs.Arrays.{map-at}
+use Rattle.cutter.specs.Lists.{place-of, rises-mono}
+use Rattle.cutter.specs.Ends.{of-break, of-end, ends-rise}
 use Rattle.cutter_cursors.specs.Search.{bid-first, first-mono}
 use Rattle.cutter_cursors.specs.Sweep.{placeOf}
-use Rattle.cutter_cursors.specs.Places.{place-below}
 use Rattle.cutter_prices.specs.Rule.{price-found, price-none, flag-found, flag-none, flag-most, price-place}
 
 -- "its price is that of the first bid step whose break is at least its upper end. If there is none, the price is the bid's last price
--- and the flag is 1. Otherwise the flag is 0": price p and flag f of the step that ends at u
+-- and the flag is 1. Otherwise the flag is 0": price p and flag f of the step that ends at u. A bid that was pulled has no step, and its last
+-- price is that of "the nearest earlier schedule with a count above 0" (document 02, F-6), r, which is s itself where the bid was not pulled
 pub data PriceRule (w : List ℕ) (s u p f : ℕ) : Type 0 where
   of-step : (j : ℕ) → j < bidCount w s → ((i : ℕ) → i < j → bidBreak w s i < u) → u ≤ bidBreak w s j → p ≡ bidPrice w s j → f ≡ 0 → PriceRule w s u p f
-  of-last : ((i : ℕ) → i < bidCount w s → bidBreak w s i < u) → p ≡ bidPrice w s (bidCount w s - 1) → f ≡ 1 → PriceRule w s u p f
+  of-last : (r : ℕ) → Nearest w s r → ((i : ℕ) → i < bidCount w s → bidBreak w s i < u) → p ≡ bidPrice w r (bidCount w r - 1) → f ≡ 1 → PriceRule w s u p f
 
-pub price-rule : (w : List ℕ) (s u : ℕ) → PriceRule w s u (price w s u) (flag w s u)
-price-rule w s u =
+pub price-rule : (w : List ℕ) → AcceptedLine w → (s u : ℕ) → s < 5 → PriceRule w s u (price w s u) (flag w s u)
+unfolding lastPrice
+price-rule w h s u m =
     let r = bid-first w s u in
     elim (decLt (bidStep w s u) (bidCount w s)) [
       | yes l ↦ of-step (bidStep w s u) l (r .passed) (r .reached l) (price-found w s u l) (flag-found w s u l)
       | no g ↦
-          let h : bidCount w s ≤ bidStep w s u = omega arith in
-          of-last (λ i l. r .passed i (omega arith)) (price-none w s u h) (flag-none w s u h)
+          let e : bidCount w s ≤ bidStep w s u = omega arith in
+          of-last (source w s) (nearest w h s m) (λ i l. r .passed i (omega arith)) (price-none w s u e) (flag-none w s u e)
+    ]
+
+-- so in a schedule whose bid was pulled every step is flagged and has the last price of the nearest earlier bid with steps
+pub pulled-rule : {w : List ℕ} {s r u p f : ℕ} → PriceRule w s u p f → bidCount w s ≡ 0 → Nearest w s r → (p ≡ bidPrice w r (bidCount w r - 1)) × (f ≡ 1)
+pulled-rule (of-step j l a b p f) e n = absurd (omega arith)
+pulled-rule {w} (of-last q m a p f) e n = (p ∙ ap (λ (k : ℕ). bidPrice w k (bidCount w k - 1)) (nearest-same m n), f)
+
+-- and a bid with steps has a price for the line's first step, whose end no break is below
+pub first-flag : (w : List ℕ) → AcceptedLine w → (s : ℕ) → s < 5 → flag w s (upperEnd w 0) ≡ 1 → bidCount w s ≡ 0
+unfolding upperEnd stepCount
+first-flag w h s l e =
+    let u = getD (ends w) 0 0 in
+    elim (decLt 0 (bidCount w s)) [
+      | yes c ↦
+          let p = place-of (of-end w (bidBreak w s 0) (of-break s 0 l c refl)) in
+          let q = p .same in
+          let m = rises-mono (ends-rise w h) 0 (p .place) (omega arith) (p .below) in
+          elim (decLt (bidStep w s u) (bidCount w s)) [
+            | yes g ↦ let z = flag-found w s u g in absurd (omega arith)
+            | no g ↦ let r = bid-first w s u .passed 0 (omega arith) in absurd (omega arith)
+          ]
+      | no c ↦ omega arith
     ]
 
 -- a flag that is set is set for every greater end
@@ -87,8 +113,12 @@ unfolding placeOf
 price-order w h s u v l m =
     let b = h .bids s l in
     let d = first-mono (bid-first w s u) (bid-first w s v) m in
-    rw (← price-place w s u, ← price-place w s v)
-    (order-places (side w) (bidCount w s) (bidPrice w s) (b .ordered) (placeOf w s u - 1) (placeOf w s v - 1) (omega arith) (place-below w s v (b .count-least)))
+    elim (decLt 0 (bidCount w s)) [
+      | yes c ↦
+          rw (← price-place w s u c, ← price-place w s v c)
+          (order-places (side w) (bidCount w s) (bidPrice w s) (b .ordered) (placeOf w s u - 1) (placeOf w s v - 1) (omega arith) (omega arith))
+      | no c ↦ rw (price-none w s u (omega arith), price-none w s v (omega arith)) (order-same (side w) (lastPrice w (source w s)))
+    ]
 
 -- the steps' prices and flags, place by place
 pub prices-length : (w : List ℕ) (s : ℕ) → length (prices w s) ≡ stepCount w

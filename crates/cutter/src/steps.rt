@@ -6,6 +6,7 @@ use cutter_cursors::cursors::passed;
 use cutter_cursors::cursors::start;
 use cutter_prices::Missing;
 use cutter_prices::flag_words;
+use cutter_prices::price_slots;
 use cutter_prices::put_step;
 use rules::Cut;
 ghost use mathlib.Core.Path.{_≡_};
@@ -46,13 +47,14 @@ pub fn steps(line: &[u8]) -> Cut
         fifth: 0,
     };
     let mut places = start();
+    let slots = price_slots(line);
     let mut end: u32 = 0;
     let mut far = next_gap(line, places, end);
     let mut n: usize = 0;
     while far < FAR {
         end = end + 1 + far;
         ends[n] = end;
-        missing = put_step(line, &mut prices, places, end, n, missing);
+        missing = put_step(line, &mut prices, slots, places, end, n, missing);
         places = passed(line, places, end);
         far = next_gap(line, places, end);
         n += 1;

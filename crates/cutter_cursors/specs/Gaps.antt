@@ -1,5 +1,5 @@
 -- Laws of gaps: of the least of some numbers, of the break at a cursor, and that up to the least gap the cursors stay.
-use Prim.Native.Nat.{ℕ, zero, suc, _+_, _-_, _≤_, _<_, min}
+use Prim.Native.Nat.{ℕ, zero, suc, _+_, _-_, _≤_, _<_, min, max}
 use native.Mathlib.Omega.{arith}
 use native.Mathlib.Decide.{decLt}
 use mathlib.Core.Path.{_≡_, _∙_, sym, ap}
@@ -91,7 +91,7 @@ place-stays w e g s l =
     let q = break-here w e s j in
     omega arith
     in
-    ap (λ (j : ℕ). min (suc j) (bidCount w s)) (sym (step-stays w s (suc e) (e + 1 + g) (omega arith) t))
+    ap (λ (j : ℕ). max 1 (min (suc j) (bidCount w s))) (sym (step-stays w s (suc e) (e + 1 + g) (omega arith) t))
 
 sweep-same : (w : List ℕ) (e : ℕ) → sweepOf w (suc e) ≡ sweepOf w (e + 1 + nextGap w e)
 unfolding sweepOf nextGap
@@ -103,4 +103,4 @@ sweep-same w e =
 
 -- so at the next end all five do
 pub sweep-stays : {w : List ℕ} {places : Sweep} (e : ℕ) {g : ℕ} → SweepAt w places (suc e) → g ≡ nextGap w e → SweepAt w places (e + 1 + g)
-sweep-stays {w} e h q = rw q (record { line = h .line; same = h .same ∙ sweep-same w e })
+sweep-stays {w} e h q = rw q (record { line = h .line; above = omega arith; same = h .same ∙ sweep-same w e })

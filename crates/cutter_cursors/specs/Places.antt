@@ -40,19 +40,29 @@ pub place-none : (w : List ℕ) (s u : ℕ) → bidCount w s ≤ bidStep w s u �
 unfolding placeOf
 place-none w s u l = omega arith
 
--- a step of the bid
+-- a step of the bid, where it has any
 pub place-below : (w : List ℕ) (s u : ℕ) → 0 < bidCount w s → placeOf w s u - 1 < bidCount w s
 unfolding placeOf
 place-below w s u c = omega arith
+
+-- of a pulled bid the first slot, whose break is 0
+pub place-pulled : (w : List ℕ) (s u : ℕ) → bidCount w s ≡ 0 → placeOf w s u - 1 ≡ 0
+unfolding placeOf
+place-pulled w s u e = omega arith
+
+pub break-pulled : {w : List ℕ} {s : ℕ} → AcceptedBid w s → (u : ℕ) → bidCount w s ≡ 0 → bidBreak w s (placeOf w s u - 1) ≡ 0
+break-pulled {w} {s} b u e =
+    let p = place-pulled w s u e in
+    ap (bidBreak w s) (omega arith) ∙ b .unused-break 0 (omega arith)
 
 module _ {w : List ℕ} {s at u : ℕ} (h : Standing w s at u) where
   pub of-bid : AcceptedBid w s
   of-bid = h .line .accepted .bids s (h .schedule)
 
-  -- it is a step of the bid, counted from 1
+  -- it is a slot of the bid, counted from 1
   pub place-least : 0 < at
   unfolding placeOf
-  place-least = let p = h .place in let c = of-bid .count-least in omega arith
+  place-least = let p = h .place in omega arith
 
   pub place-most : at ≤ 11
   unfolding placeOf
@@ -71,7 +81,7 @@ sweep-is w u a b c d e = λ i. record { first = a i; second = b i; third = c i; 
 -- and each of them
 module _ {w : List ℕ} {places : Sweep} {u : ℕ} (h : SweepAt w places u) where
   one : (of : Sweep → ℕ) (s : ℕ) → s < 5 → of (sweepOf w u) ≡ placeOf w s u → Standing w s (of places) u
-  one of s l e = record { line = h .line; schedule = l; place = ap of (h .same) ∙ e }
+  one of s l e = record { line = h .line; schedule = l; above = h .above; place = ap of (h .same) ∙ e }
 
   pub standing-first : Standing w 0 (places .first) u
   unfolding sweepOf
@@ -123,13 +133,12 @@ step-after {w} {s} b u l =
           rw (eq-eqb (bidBreak w s (bidStep w s u)) u (omega arith)) (omega arith)
     ]
 
--- before the first end a cursor stands at its bid's first step
+-- before the first end a cursor stands at its bid's first slot
 first-place : {w : List ℕ} {s : ℕ} → AcceptedBid w s → 1 ≡ placeOf w s 1
 unfolding placeOf bidStep before
 first-place {w} {s} b =
     let f : First (bidBreak w s) 1 (bidCount w s) 0 = record { within = omega arith; passed = λ k m. absurd (omega arith); reached = λ m. b .rises 0 m } in
     let e = step-is f in
-    let c = b .count-least in
     omega arith
 
 pub first-places : {w : List ℕ} → Line w → firstPlaces ≡ sweepOf w 1

@@ -1,5 +1,5 @@
 -- Where the sweep stands at a step, as functions of the line and the step's upper end, and what each of its moves gives.
-use Prim.Native.Nat.{ℕ, zero, suc, _+_, _-_, _<_, min}
+use Prim.Native.Nat.{ℕ, zero, suc, _+_, _-_, _<_, min, max}
 use mathlib.Core.Path.{_≡_}
 use mathlib.Core.Bool.{cond}
 use mathlib.Core.List.{List}
@@ -20,9 +20,9 @@ abbrev pub past : ℕ
 past = 4294967295
 
 -- the step of the bid of schedule s, counted from 1, that gives the price of a step which ends at u: the first whose break is at least u,
--- or the bid's last
+-- or the bid's last; of a pulled bid the first slot, whose break is 0
 unfoldable pub placeOf : List ℕ → ℕ → ℕ → ℕ
-placeOf w s u = min (suc (bidStep w s u)) (bidCount w s)
+placeOf w s u = max 1 (min (suc (bidStep w s u)) (bidCount w s))
 
 -- all of them
 unfoldable pub sweepOf : List ℕ → ℕ → Sweep
@@ -37,14 +37,16 @@ firstPlaces = record { first = 1; second = 1; third = 1; fourth = 1; fifth = 1 }
 pub record Standing (w : List ℕ) (s at u : ℕ) : Type 0 where
   pub line : Line w
   pub schedule : s < 5
+  pub above : 0 < u
   pub place : at ≡ placeOf w s u
 
 -- and `places` those of all five
 pub record SweepAt (w : List ℕ) (places : Sweep) (u : ℕ) : Type 0 where
   pub line : Line w
+  pub above : 0 < u
   pub same : places ≡ sweepOf w u
 
--- the break at which a cursor moves on, none at the bid's last step
+-- the break at which a cursor moves on, none at the bid's last step and in a pulled bid
 unfoldable pub stopOf : List ℕ → ℕ → ℕ → ℕ
 stopOf w s at = cond (ltb at (bidCount w s)) (bidBreak w s (at - 1)) past
 

@@ -1,6 +1,7 @@
 // The cutter's five cursors (document 01, "Steps and prices"): one for each schedule's bid, at the first bid step whose break is at least
-// the next step's upper end, or at the bid's last where there is none. The least of their breaks and of the hedge that is above the last
-// end is the next end. Breaks are read from the lent line.
+// the next step's upper end, or at the bid's last where there is none. That of a pulled bid (document 02, F-6) stays at the first slot,
+// whose break is 0, so that it gives no end. The least of their breaks and of the hedge that is above the last end is the next end. Breaks
+// are read from the lent line.
 use layout::bids::bid_break;
 use layout::bids::bid_count;
 use layout::fields::hedge;
@@ -35,7 +36,7 @@ fn same(a: u32, b: u32) -> usize
     index(bit(a == b))
 }
 
-// The break at which the cursor moves on; PAST at the bid's last step.
+// The break at which the cursor moves on; PAST at the bid's last step, and in a pulled bid.
 fn stop_of(line: &[u8], s: usize, at: usize) -> u32
     requires { ⌜ (length (now line) ≡ 660) × (s < 5) × (0 < at) × (at ≤ 11) ⌝ }
     ensures { λ r. ⌜ r ≡ stopOf (now (line .entry)) s at ⌝ }

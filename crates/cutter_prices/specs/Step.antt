@@ -1,10 +1,26 @@
 -- What the cutter writes of a step, by the definitions of `price` and `flag`.
 use Prim.Native.Nat.{ℕ, zero, suc, _+_, _*_, _-_, _^_, _≤_}
+use mathlib.Core.Bool.{cond}
 use mathlib.Core.List.{List}
 use lib.ListN.{set}
-use Rattle.rules.specs.Steps.{price, flag}
+use lib.Dec.{eqb}
+use Rattle.rules.specs.Layout.{bidWord, bidCount}
+use Rattle.rules.specs.Steps.{source, price, flag}
 use Rattle.cutter_prices.specs.declared.StepPrice.{StepPrice}
+use Rattle.cutter_prices.specs.declared.Slots.{Slots}
 use Rattle.cutter_prices.specs.declared.Missing.{Missing}
+
+-- the byte of the word before price j of the bid of schedule s, from 0
+abbrev pub beforePrice : ℕ → ℕ → ℕ
+beforePrice s j = 4 * (bidWord s + 11 + j)
+
+-- the byte that the prices of schedule s are counted from, that of bid step j, from 1, being j words on: before the first price of its bid or,
+-- where that was pulled, so that its cursor stands at 1, before the last price of the bid that gives it
+unfoldable pub slotOf : List ℕ → ℕ → ℕ
+slotOf w s = cond (eqb (bidCount w s) 0) (beforePrice (source w s) (bidCount w (source w s) - 1)) (beforePrice s 0)
+
+unfoldable pub slotsOf : List ℕ → Slots
+slotsOf w = record { first = slotOf w 0; second = slotOf w 1; third = slotOf w 2; fourth = slotOf w 3; fifth = slotOf w 4 }
 
 -- the uncapped price and the flag of the step that ends at u, in schedule s
 unfoldable pub stepPrice : List ℕ → ℕ → ℕ → StepPrice

@@ -6,7 +6,7 @@ use mathlib.Core.List.{List}
 use mathlib.Core.Bool.{Bool, true, false, not, _&&_, true≢false}
 use lib.ListN.{length}
 use lib.Dec.{eqb, ltb, leb}
-use borrow.Author.Tests.{ltb-false, lt-ltb, leb-false, eqb-true, eqb-false, not-false}
+use borrow.Author.Tests.{ltb-false, lt-ltb, leb-false, eq-eqb, eqb-true, eqb-false, not-false}
 use Rattle.rules.specs.Fold.{refuse, first, before}
 use Rattle.rules.specs.Layout.{quantityMost, priceMost, lineCount, fileLength}
 use Rattle.rules.specs.Layout.{marketPrice, capMark, priceCap, clawback, lineAt, side, accreditation, hedge, withdrawal}
@@ -24,9 +24,13 @@ at-most n a b e = ltb-false a b (refuse-zero n (ltb a b) e)
 equal : (n a b : ℕ) → refuse (suc n) (not (eqb a b)) ≡ 0 → a ≡ b
 equal n a b e = eqb-true a b (not-false (eqb a b) (refuse-zero n (not (eqb a b)) e))
 
--- the bid of one schedule: refusals 7 to 10
+and-false : (a b : Bool) → (a && b) ≡ false → a ≡ true → b ≡ false
+and-false true b e h = e
+and-false false b e h = absurd (true≢false (sym h))
+
+-- the bid of one schedule: refusals 7 to 10; of a pulled bid, which has no steps, 8 and 9 ask nothing
 pub record AcceptedBid (w : List ℕ) (s : ℕ) : Type 0 where
-  pub count-least : 1 ≤ bidCount w s
+  pub count-first : s ≡ 0 → 1 ≤ bidCount w s
   pub count-most : bidCount w s ≤ 11
   pub rises : (j : ℕ) → j < bidCount w s → before (bidBreak w s) j < bidBreak w s j
   pub break-most : (j : ℕ) → j < bidCount w s → bidBreak w s j ≤ 200000000
@@ -58,12 +62,11 @@ accepted-bid w s e =
     let b2 = orElse-both _ _ (b1 .right) in
     let b3 = orElse-both _ _ (b2 .right) in
     let b4 = orElse-both _ _ (b3 .right) in
-    let none = eqb-false (bidCount w s) 0 (refuse-zero 6 _ (b1 .left)) in
     let brk = break-both w s (bidCount w s) (b3 .left) in
     let prc = price-both w s (bidCount w s) (b4 .left) in
     let uns = unused-both w s (11 - bidCount w s) (b4 .right) in
     record {
-      count-least = omega arith;
+      count-first = λ h. let none = eqb-false (bidCount w s) 0 (and-false _ _ (refuse-zero 6 _ (b1 .left)) (eq-eqb s 0 h)) in omega arith;
       count-most = at-most 6 11 (bidCount w s) (b2 .left);
       rises = λ j h. leb-false _ _ (refuse-zero 7 _ (brk j h .left));
       break-most = λ j h. at-most 7 200000000 _ (brk j h .right);
@@ -101,10 +104,6 @@ total-both t w s e = orElse-both _ _ e
 actual-is : (w : List ℕ) (i : ℕ) → actualFault w i ≡ 0 → actualEntry w i ≤ 200000000
 unfolding actualFault
 actual-is w i e = at-most 12 200000000 _ e
-
-and-false : (a b : Bool) → (a && b) ≡ false → a ≡ true → b ≡ false
-and-false true b e h = e
-and-false false b e h = absurd (true≢false (sym h))
 
 accepted-head : (w : List ℕ) → headFault w ≡ 0 → AcceptedHead w
 unfolding headFault

@@ -7,7 +7,7 @@ use mathlib.Core.Path.{_≡_, refl, sym, _∙_, ap}
 use mathlib.Core.List.{List, [], _∷_, _++_}
 use lib.Dec.{eqb}
 use borrow.Author.Tests.{eq-eqb, ne-eqb}
-use mathlib.Core.Bool.{Bool, true, false, not, _||_, true≢false, false≢true}
+use mathlib.Core.Bool.{Bool, true, false, not, _||_, true≢false, false≢true, _&&_}
 use lib.ListN.{length, getD, length-append, List·getD-append}
 use lib.Seq.{getD-append-seam}
 use lib.IntN.{ℤ, pos, _+ℤ_}
@@ -21,6 +21,11 @@ refuse-false n = refl
 pub refuse-true : (n : ℕ) → refuse n true ≡ n
 unfolding refuse
 refuse-true n = refl
+
+-- a test of which one part is not met
+pub and-no : (t : Bool) → (t && false) ≡ false
+and-no true = refl
+and-no false = refl
 
 -- a refusal that isn't met: its test is false
 pub refuse-zero : (n : ℕ) (t : Bool) → refuse (suc n) t ≡ 0 → t ≡ false

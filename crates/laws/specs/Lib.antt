@@ -2,4 +2,5 @@
 pub mod Folds
 pub mod Ints
 pub mod Accepted
+pub mod Sources
 pub mod Chains

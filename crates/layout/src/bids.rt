@@ -29,12 +29,28 @@ pub fn price_place(s: usize, j: usize) -> usize
     bid_place(s, 12 + j)
 }
 
+// Where the word before its price of step j stands.
+pub fn before_price(s: usize, j: usize) -> usize
+    requires { ⌜ (s < 5) × (j < 11) ⌝ }
+    ensures { λ r. ⌜ r ≡ 4 * (layout.bidWord s + 11 + j) ⌝ }
+{
+    bid_place(s, 11 + j)
+}
+
 // How many steps the bid of schedule s has.
 pub fn bid_count(line: &[u8], s: usize) -> usize
     requires { ⌜ (length (now line) ≡ 660) × (s < 5) ⌝ }
     ensures { λ r. ⌜ r ≡ layout.bidCount (now (line .entry)) s ⌝ }
 {
     index(word_at(line, bid_place(s, 0)))
+}
+
+// Word i of the bid of schedule s: its count, its break of step i, counted from 1, its price of step i - 11.
+pub fn bid_word(line: &[u8], s: usize, i: usize) -> u32
+    requires { ⌜ (length (now line) ≡ 660) × (s < 5) × (i < 23) ⌝ }
+    ensures { λ r. ⌜ r ≡ layout.field (now (line .entry)) (layout.bidWord s + i) ⌝ }
+{
+    word_at(line, bid_place(s, i))
 }
 
 pub fn bid_break(line: &[u8], s: usize, j: usize) -> u32

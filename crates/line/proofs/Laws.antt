@@ -54,24 +54,24 @@ module _ (w : List ℕ) (x : ℕ) (sd : x ≡ side w) where
         head-set h = passes 6 _ _ _ sided (passes 6 _ _ _ no-gap (none-at 6 _ (le-ltb 63 (accreditation w) (omega arith))))
 
 -- one bid, part by part, with the count that was read
-bid-is : (w : List ℕ) (s : ℕ) → bidFault w s ≡ countFault (bidCount w s) orElse (first (breakFault w s) (bidCount w s) orElse slotsFault w s)
+bid-is : (w : List ℕ) (s : ℕ) → bidFault w s ≡ countFault s (bidCount w s) orElse (first (breakFault w s) (bidCount w s) orElse slotsFault w s)
 unfolding bidFault countFault slotsFault
 bid-is w s = simp orElse-assoc
 
 module _ (w : List ℕ) (s n : ℕ) (count : n ≡ bidCount w s) where
-  module _ (c : ℕ) (counted : c ≡ countFault n) where
+  module _ (c : ℕ) (counted : c ≡ countFault s n) where
     pub bid-count : (c ≡ 0 → ⊥) → c ≡ bidFault w s
-    bid-count h = part-stops _ _ _ (counted ∙ ap countFault count) h ∙ sym (bid-is w s)
+    bid-count h = part-stops _ _ _ (counted ∙ ap (countFault s) count) h ∙ sym (bid-is w s)
 
     module _ (few : c ≡ 0) where
       pub bid-break : (x : ℕ) → x ≡ first (breakFault w s) n → (x ≡ 0 → ⊥) → x ≡ bidFault w s
       bid-break x e h =
-          part-passes _ _ _ c (counted ∙ ap countFault count) few (part-stops _ _ _ (e ∙ ap (first (breakFault w s)) count) h)
+          part-passes _ _ _ c (counted ∙ ap (countFault s) count) few (part-stops _ _ _ (e ∙ ap (first (breakFault w s)) count) h)
           ∙ sym (bid-is w s)
 
       pub bid-slots : 0 ≡ first (breakFault w s) n → (x : ℕ) → x ≡ slotsFault w s → x ≡ bidFault w s
       bid-slots b x e =
-          part-passes _ _ _ c (counted ∙ ap countFault count) few (part-passes _ _ _ 0 (b ∙ ap (first (breakFault w s)) count) refl e)
+          part-passes _ _ _ c (counted ∙ ap (countFault s) count) few (part-passes _ _ _ 0 (b ∙ ap (first (breakFault w s)) count) refl e)
           ∙ sym (bid-is w s)
 
 -- the line, part by part

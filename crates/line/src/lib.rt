@@ -55,7 +55,7 @@ pub fn lines_number(b: &[u8], at: usize, n: usize) -> u32
         }
         for s in 0..5 {
             let count = bid_count(line, s);
-            let counted = count_number(count);
+            let counted = count_number(s, count);
             if counted != 0 {
                 break 'lines counted;
             }

@@ -12,14 +12,17 @@ ghost use Rattle.rules.specs.Layout.{bidBreak};
 ghost use Rattle.rules.specs.Refusals.{breakFault};
 ghost use Rattle.line_bids.specs.Counts.{countFault};
 
-// Refusal 7 of a bid of `count` steps.
-pub fn count_number(count: usize) -> u32
-    ensures { λ r. ⌜ r ≡ countFault count ⌝ }
+// Refusal 7 of a bid of `count` steps in schedule s: a bid may be pulled after the first schedule.
+pub fn count_number(s: usize, count: usize) -> u32
+    ensures { λ r. ⌜ r ≡ countFault s count ⌝ }
 {
-    if count == 0 {
+    if 11 < count {
         return 7;
     }
-    if 11 < count {
+    if count != 0 {
+        return 0;
+    }
+    if s == 0 {
         return 7;
     }
     0

@@ -1,6 +1,6 @@
 // M, the greatest break of a line's five bids (document 01, "Steps and prices").
-use layout::bids::bid_break;
 use layout::bids::bid_count;
+use layout::bids::bid_word;
 use numbers::greater;
 ghost use mathlib.Core.Path.{_≡_};
 ghost use Prim.Native.Nat.{_<_};
@@ -9,12 +9,12 @@ ghost use Rattle.rules.specs.Fold.{first};
 ghost use Rattle.rules.specs.Steps.{bidMost, greatestBreak};
 ghost use Rattle.rules.specs.Refusals.{bidFault};
 
-// The greatest break of an accepted bid is its last.
+// The greatest break of an accepted bid is its last; of a pulled bid, which has none, the word there is its count, 0.
 fn bid_most(line: &[u8], s: usize) -> u32
     requires { ⌜ (length (now line) ≡ 660) × (s < 5) × (bidFault (now line) s ≡ 0) ⌝ }
     ensures { λ r. ⌜ r ≡ bidMost (now (line .entry)) s ⌝ }
 {
-    bid_break(line, s, bid_count(line, s) - 1)
+    bid_word(line, s, bid_count(line, s))
 }
 
 // M, where the bids are accepted.

@@ -63,10 +63,11 @@ unusedFault w s i =
     orElse refuse 10 (not (eqb (bidPrice w s (bidCount w s + i)) 0))
 
 -- "within a line 7 to 10 run bid by bid"; within a bid each is asked of the whole bid, in this order.
--- "7: bid count 0 or above 11"
+-- "7: bid count 0 or above 11"; "A count of 0 is then proper in schedules 2 to 5", "Refusal 7 still covers 0 in schedule 1" (document 02,
+-- F-6); schedule 1 is 0 here. Of a pulled bid all slots are unused
 unfoldable pub bidFault : List ℕ → ℕ → ℕ
 bidFault w s =
-    refuse 7 (eqb (bidCount w s) 0)
+    refuse 7 (eqb s 0 && eqb (bidCount w s) 0)
     orElse refuse 7 (ltb bidSlots (bidCount w s))
     orElse first (breakFault w s) (bidCount w s)
     orElse first (priceFault w s) (bidCount w s)

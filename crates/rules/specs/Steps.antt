@@ -1,4 +1,4 @@
--- Document 01, "Steps and prices" (FD 4.2, 4.3); whether a step is paid, by document 02, F-7.
+-- Document 01, "Steps and prices" (FD 4.2, 4.3); pulled bids by document 02, F-6, whether a step is paid by F-7.
 use Prim.Native.Nat.{ℕ, zero, suc, _-_, _/_, _%_, _^_, min}
 use mathlib.Core.List.{List, [], _∷_, _++_}
 use mathlib.Core.Bool.{Bool, cond, not, _&&_}
@@ -52,13 +52,25 @@ stepFrom br u j (suc m) = cond (leb u (br j)) j (stepFrom br u (suc j) m)
 unfoldable pub bidStep : List ℕ → ℕ → ℕ → ℕ
 bidStep w s u = stepFrom (bidBreak w s) u 0 (bidCount w s)
 
+-- the bid that gives schedule s its last price: its own or, where that was pulled, that of "the nearest earlier schedule with a count
+-- above 0" (document 02, F-6); schedules count from 0 here, and the first has a bid (refusal 7)
+unfoldable pub source : List ℕ → ℕ → ℕ
+source w zero = zero
+source w (suc s) = cond (eqb (bidCount w (suc s)) 0) (source w s) (suc s)
+
+-- "the bid's last price"
+unfoldable pub lastPrice : List ℕ → ℕ → ℕ
+lastPrice w s = bidPrice w s (bidCount w s - 1)
+
 -- "In schedule s its price is that of the first bid step whose break is at least its upper end.
--- If there is none, the price is the bid's last price and the flag is 1. Otherwise the flag is 0": of the step that ends at u
+-- If there is none, the price is the bid's last price and the flag is 1. Otherwise the flag is 0": of the step that ends at u.
+-- A bid that was pulled has no steps: "Every step has flag 1 there and takes the last price of the nearest earlier schedule with a count
+-- above 0" (document 02, F-6)
 unfoldable pub price : List ℕ → ℕ → ℕ → ℕ
 price w s u =
     cond (ltb (bidStep w s u) (bidCount w s))
     (bidPrice w s (bidStep w s u))
-    (bidPrice w s (bidCount w s - 1))
+    (lastPrice w (source w s))
 
 unfoldable pub flag : List ℕ → ℕ → ℕ → ℕ
 flag w s u = cond (ltb (bidStep w s u) (bidCount w s)) 0 1

@@ -1,8 +1,9 @@
--- Evidence beside the definitions, which name none of it: K1 to K10 (Figures), figures worked by hand (ByHand), three days with the figures of an
--- implementation written from the papers by other hands (Base1 to Base3) and each refusal on both sides of its boundary (Refused), all
--- computed on the definitions (Lemma). Of document 02's requests: a day worked by hand and three of that implementation's for accreditation
--- within the day (Reschedule, Accredited1 to Accredited3; Later). Of its days that implementation's report and steps were taken; their books are
--- written from the report by document 01's layout.
+-- Evidence beside the definitions, which name none of it: K1 to K10 (Figures), figures worked by hand (ByHand), three days with the figures
+-- of an implementation written from the papers by other hands (Base1 to Base3) and each refusal on both sides of its boundary (Refused),
+-- all computed on the definitions (Lemma). Of document 02's requests: a day worked by hand and three of that implementation's for
+-- accreditation within the day (Reschedule, Accredited1 to Accredited3; Later), the same for bids pulled in a reschedule (Pulled0 by hand,
+-- Pulled1 to Pulled3; Later). Of its days that implementation's report and steps were taken; their books are written from the report by
+-- document 01's layout.
 pub mod Cases
 pub mod Opened
 pub mod Figures
@@ -14,6 +15,10 @@ pub mod Reschedule
 pub mod Accredited1
 pub mod Accredited2
 pub mod Accredited3
+pub mod Pulled0
+pub mod Pulled1
+pub mod Pulled2
+pub mod Pulled3
 pub mod Refused
 pub mod Laws
 pub mod Lemma

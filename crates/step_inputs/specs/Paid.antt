@@ -10,13 +10,14 @@ use lib.IntN.{ℤ}
 use borrow.Author.Tests.{ltb-true}
 use Rattle.rules.specs.Fold.{sumTo, sumZ, at, before}
 use Rattle.rules.specs.Layout.{quantityMost, priceMost, mostLines, lineCount, lineAt, bidCount, bidPrice, marketPrice, capMark, priceCap}
-use Rattle.rules.specs.Steps.{stepCount, upperEnd, bidStep, price, capped}
+use Rattle.rules.specs.Steps.{stepCount, upperEnd, bidStep, source, lastPrice, price, capped}
 use Rattle.rules.specs.Matching.{earlier, rise, fall}
 use Rattle.rules.specs.declared.Step.{Step}
 use Rattle.rules.specs.Payments.{onStep, isPaid, Day, poolOf, stepFinal}
 use Rattle.rules.specs.Totals.{linePayment, totals}
 use Rattle.rules.specs.Days.{stepOf, settledDay}
-use Rattle.laws.specs.Accepted.{AcceptedBid, AcceptedLine, AcceptedDay, accepted-line-at}
+use Rattle.laws.specs.Accepted.{AcceptedLine, AcceptedDay, accepted-line-at}
+use Rattle.laws.specs.Sources.{nearest}
 use Rattle.laws.specs.Folds.{sum-none, sum-suc, sum-le, sum-most, sumZ-none, sumZ-suc}
 use Rattle.laws.specs.Ints.{pl, mi, apart, pl-add, mi-add}
 use Rattle.day_totals.specs.Sizes.{size, Bounded}
@@ -130,14 +131,22 @@ module _ (y : Day) (z : DaySized y) (k : ℕ) (l : k < y .lines) where
 pub day-bounded : (y : Day) → DaySized y → Bounded (totals y)
 day-bounded y z = totals-bounded y (z .lines) (payment-size y z)
 
--- a step's price is within the limit: it is one of the bid's
-price-by : (w : List ℕ) (s : ℕ) → AcceptedBid w s → (i : ℕ) (t : Bool) → ltb i (bidCount w s) ≡ t → cond t (bidPrice w s i) (bidPrice w s (bidCount w s - 1)) ≤ priceMost
-price-by w s b i true e = b .price-most i (ltb-true i (bidCount w s) e)
-price-by w s b i false e = b .price-most (bidCount w s - 1) (omega (arith, b .count-least))
+-- a step's price is within the limit: it is one of the bid's or the last of an earlier one's
+last-most : (w : List ℕ) → AcceptedLine w → (s : ℕ) → s < 5 → lastPrice w (source w s) ≤ priceMost
+unfolding lastPrice
+last-most w h s l =
+    let n = nearest w h s l in
+    let b = n .within in
+    let c = n .some in
+    h .bids (source w s) (omega arith) .price-most (bidCount w (source w s) - 1) (omega arith)
 
-pub price-most : (w : List ℕ) (s u : ℕ) → AcceptedBid w s → price w s u ≤ priceMost
+price-by : (w : List ℕ) → AcceptedLine w → (s : ℕ) → s < 5 → (i : ℕ) (t : Bool) → ltb i (bidCount w s) ≡ t → cond t (bidPrice w s i) (lastPrice w (source w s)) ≤ priceMost
+price-by w h s l i true e = h .bids s l .price-most i (ltb-true i (bidCount w s) e)
+price-by w h s l i false e = last-most w h s l
+
+pub price-most : (w : List ℕ) → AcceptedLine w → (s u : ℕ) → s < 5 → price w s u ≤ priceMost
 unfolding price
-price-most w s u b = price-by w s b (bidStep w s u) (ltb (bidStep w s u) (bidCount w s)) refl
+price-most w h s u l = price-by w h s l (bidStep w s u) (ltb (bidStep w s u) (bidCount w s)) refl
 
 capped-by : (t : Bool) (p c b : ℕ) → p ≤ b → cond t (min p c) p ≤ b
 capped-by true p c b h = omega arith
@@ -158,7 +167,7 @@ module _ (d : List ℕ) (a : AcceptedDay d) where
           upper = omega (arith, upper-most w line j g, most-limit w line);
           prices =
               five-most (λ s. capped d s (price w s (upperEnd w j))) priceMost
-              (λ s i. capped-by (eqb (capMark d s) 1) (price w s (upperEnd w j)) (priceCap d) priceMost (price-most w s (upperEnd w j) (line .bids s i)));
+              (λ s i. capped-by (eqb (capMark d s) 1) (price w s (upperEnd w j)) (priceCap d) priceMost (price-most w line s (upperEnd w j) i));
           markets = five-most (marketPrice d) priceMost (λ s i. a .market .price-most s i);
         }
 

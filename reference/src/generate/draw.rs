@@ -181,7 +181,7 @@ pub fn put_bid(line: &mut [u8], bid: usize, breaks: &[u32], prices: &[u32]) {
 }
 
 /// Pricing and operating quantities with totals of at most M, and actuals.
-fn draw_quantities(line: &mut [u8], random: &mut Random) {
+pub fn draw_quantities(line: &mut [u8], random: &mut Random) {
     let most = Line::new(line).map_or(0, Line::greatest_break);
     let pricing_most = random.pick(&[0, most / 4, most / 2, most]);
     let mut passed = 0;
@@ -228,7 +228,7 @@ fn draw_actual(random: &mut Random, scheduled: u32) -> u32 {
 }
 
 /// Parts that add up to the total.
-fn split(random: &mut Random, total: u32, parts: usize) -> Vec<u32> {
+pub fn split(random: &mut Random, total: u32, parts: usize) -> Vec<u32> {
     let mut left = total;
     let mut split = Vec::new();
     for _ in 1..parts {

@@ -4,7 +4,7 @@ use super::draw::{draw_line, draw_prices, put_bid, rising_quantities, Scale};
 use super::random::Random;
 use crate::layout::*;
 
-type LineFault = (u32, fn(&mut [u8], &mut Random));
+pub type LineFault = (u32, fn(&mut [u8], &mut Random));
 
 pub const LINE_FAULTS: &[LineFault] = &[
     // Side and accreditation.
@@ -14,7 +14,7 @@ pub const LINE_FAULTS: &[LineFault] = &[
     (6, |line, _| put_word(line, ACCREDITATION, u32::MAX)),
     (0, |line, _| put_word(line, ACCREDITATION, 0)),
     (0, |line, _| put_word(line, ACCREDITATION, 1)),
-    // Bid count.
+    // Bid count; for 0 see `damage_line`.
     (7, |line, random| put_count(line, random, 0)),
     (7, |line, random| {
         put_count(line, random, BID_SLOTS as u32 + 1)
@@ -148,7 +148,7 @@ pub const LINE_FAULTS: &[LineFault] = &[
     }),
     (10, |line, _| {
         put_bid(line, 2, &[5, 6], &[7, 7, 7]);
-        put_bid(line, 3, &[], &[]);
+        pull(line, 3); // no fault (02 F-6)
     }),
     (9, |line, _| {
         put_bid(line, 0, &[5, 6], &[u32::MAX, u32::MAX]);
@@ -168,24 +168,46 @@ pub const LINE_FAULTS: &[LineFault] = &[
     }),
 ];
 
+/// Puts a fault into a line and answers its number.
+pub fn damage_line(line: &mut [u8], random: &mut Random, kind: usize) -> u32 {
+    let (number, apply) = LINE_FAULTS[kind];
+    apply(line, random);
+    // A count of 0 is proper after the first bid (02 F-6), but leaves all slots unused.
+    let is_0 = |bid| word(line, count_place(bid)) == 0;
+    match number {
+        7 if (1..SCHEDULES).any(is_0) => 10,
+        number => number,
+    }
+}
+
+/// Pulls a bid: its count and all its slots are 0.
+pub fn pull(line: &mut [u8], bid: usize) {
+    put_bid(line, bid, &[], &[]);
+}
+
 fn side(line: &[u8]) -> Side {
     Side::of_word(word(line, SIDE))
 }
 
-fn most(line: &[u8]) -> u32 {
+pub fn most(line: &[u8]) -> u32 {
     Line::new(line).map_or(0, Line::greatest_break)
 }
 
-/// A fresh bid of so many steps in the place of one of the five. Its last break is M or 11, so no other row fails.
+/// A fresh bid of so many steps in the place of one of the five.
 fn fresh_bid(line: &mut [u8], random: &mut Random, count: usize) -> usize {
     let bid = random.place(SCHEDULES);
+    put_fresh_bid(line, random, bid, count);
+    bid
+}
+
+/// Its last break is M or 11, so no other row fails.
+pub fn put_fresh_bid(line: &mut [u8], random: &mut Random, bid: usize, count: usize) {
     let top = most(line).max(BID_SLOTS as u32);
     let mut breaks = rising_quantities(random, count - 1, top - 1);
     breaks.truncate(count - 1);
     breaks.push(top);
     let prices = draw_prices(random, side(line), count, PRICE_LIMIT);
     put_bid(line, bid, &breaks, &prices);
-    bid
 }
 
 fn put_count(line: &mut [u8], random: &mut Random, count: u32) {

@@ -4,6 +4,8 @@ mod day_faults;
 mod draw;
 mod edges;
 mod line_faults;
+mod pulled;
+mod pulled_faults;
 mod random;
 mod sets;
 
@@ -11,7 +13,12 @@ use crate::layout::*;
 use day_faults::{line_mut, line_with_own_key, DAY_FAULTS};
 use draw::{draw_day, draw_line, Scale};
 pub use edges::edge_days;
-use line_faults::LINE_FAULTS;
+use line_faults::{damage_line, LINE_FAULTS};
+pub use pulled::{pulled_day, pulled_line, small_pulled_day};
+pub use pulled_faults::{
+    k10_pulled, pulled_fault_day, pulled_fault_day_and_number, pulled_fault_line,
+    pulled_fault_line_and_number, pulled_k10_days,
+};
 use random::Random;
 pub use sets::{
     accreditation_days, set_day, set_fault_day, set_fault_day_and_number, set_fault_line,
@@ -102,10 +109,8 @@ fn damage_day(day: &mut Vec<u8>, random: &mut Random, kind: usize) -> u32 {
         apply(day, random);
         return *number;
     }
-    let (number, apply) = LINE_FAULTS[kind - DAY_FAULTS.len()];
     let k = line_with_own_key(day, random);
-    apply(line_mut(day, k), random);
-    number
+    damage_line(line_mut(day, k), random, kind - DAY_FAULTS.len())
 }
 
 fn replace_some_word(bytes: &mut [u8], random: &mut Random) {
@@ -143,8 +148,7 @@ pub fn damaged_line_and_number(seed: u64) -> (Vec<u8>, u32) {
             (line, 18)
         }
         None => {
-            let (number, apply) = LINE_FAULTS[kind - LENGTHS.len()];
-            apply(&mut line, &mut Random::new(!seed));
+            let number = damage_line(&mut line, &mut Random::new(!seed), kind - LENGTHS.len());
             (line, number)
         }
     }

@@ -29,18 +29,18 @@ fn with_sets(mut day: Vec<u8>, seed: u64) -> Vec<u8> {
     day
 }
 
-fn put_sets(day: &mut [u8], random: &mut Random) {
+pub fn put_sets(day: &mut [u8], random: &mut Random) {
     for k in 0..Day::new(day).line_count() {
         put_accreditation(line_mut(day, k), draw_accreditation(random));
     }
 }
 
-fn put_accreditation(line: &mut [u8], word: u32) {
+pub fn put_accreditation(line: &mut [u8], word: u32) {
     put_word(line, ACCREDITATION, word);
 }
 
 /// A set of 0 to 5 schedules; of four lines one has 0 or 1.
-fn draw_accreditation(random: &mut Random) -> u32 {
+pub fn draw_accreditation(random: &mut Random) -> u32 {
     match random.below(8) {
         0 => 0,
         1 => 1,
@@ -114,7 +114,7 @@ const TWO_FAULTS_OF_LINE: [TwoFaults; 2] = [
     }),
 ];
 
-fn first_line_twice(day: &mut [u8]) {
+pub fn first_line_twice(day: &mut [u8]) {
     day.copy_within(day_length(0)..day_length(1), day_length(1));
 }
 

@@ -4,13 +4,15 @@ mod figures;
 mod kept;
 mod laws;
 mod programs;
+mod pulled;
 mod reach;
+mod reach_pulled;
 mod reach_sets;
 mod refusals;
 mod second;
 mod sets;
 
-use reference::generate::{set_day, valid_day};
+use reference::generate::{pulled_day, set_day, valid_day};
 use reference::layout::book_length;
 use reference::settle::settle;
 
@@ -31,9 +33,14 @@ fn set_days() -> impl Iterator<Item = Vec<u8>> {
     (0..300).map(set_day)
 }
 
+/// Days with bids pulled in a reschedule.
+fn pulled_days() -> impl Iterator<Item = Vec<u8>> {
+    (0..300).map(pulled_day)
+}
+
 /// Generated days that every law, and the second computation, is tried on.
 fn law_days() -> impl Iterator<Item = Vec<u8>> {
-    valid_days().chain(set_days())
+    valid_days().chain(set_days()).chain(pulled_days())
 }
 
 fn line_count(day: &[u8]) -> usize {

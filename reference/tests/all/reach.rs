@@ -176,22 +176,40 @@ fn generated_days_reach() {
     assert_eq!(not_reached(valid_days()), [""; 0]);
 }
 
-/// The accepted days of the pack that a program is run on, those with sets or the others.
-pub fn accepted(program: &str, sets: bool) -> Vec<Vec<u8>> {
-    let days = entries(program).into_iter();
-    days.filter(|day| day_number(day) == 0 && has_sets(day) == sets)
-        .collect()
+/// Days with a pulled bid, others with a set of schedules, and those of document 01 alone.
+#[derive(PartialEq, Eq)]
+pub enum Kind {
+    Pulled,
+    Sets,
+    Plain,
 }
 
-fn has_sets(day: &[u8]) -> bool {
-    let is_set = |line: Line| line.word(ACCREDITATION) >= EMPTY_SET;
-    Day::new(day).lines().any(is_set)
+impl Kind {
+    fn of(day: &[u8]) -> Kind {
+        let is_pulled = |line: Line| (0..SCHEDULES).any(|bid| line.count(bid) == 0);
+        let is_set = |line: Line| line.word(ACCREDITATION) >= EMPTY_SET;
+        let day = Day::new(day);
+        if day.lines().any(is_pulled) {
+            Kind::Pulled
+        } else if day.lines().any(is_set) {
+            Kind::Sets
+        } else {
+            Kind::Plain
+        }
+    }
+}
+
+/// The accepted days of a kind in the pack that a program is run on.
+pub fn accepted(program: &str, kind: Kind) -> Vec<Vec<u8>> {
+    let days = entries(program).into_iter();
+    days.filter(|day| day_number(day) == 0 && Kind::of(day) == kind)
+        .collect()
 }
 
 /// The days that the program `check_steps` is run on.
 #[test]
 fn days_of_steps_days_reach() {
-    let valid = accepted("check_steps", false);
+    let valid = accepted("check_steps", Kind::Plain);
     assert!(valid.len() >= 60);
     assert!(valid.iter().filter(|day| line_count(day) >= 20).count() >= 5);
     assert_eq!(not_reached(valid.into_iter()), [""; 0]);

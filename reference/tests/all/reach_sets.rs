@@ -1,7 +1,7 @@
 //! That the generated days and lines with accreditation by schedule (02 F-7) reach what the others don't.
 
 use crate::kept::entries;
-use crate::reach::{accepted, unhedged, Met};
+use crate::reach::{accepted, unhedged, Kind, Met};
 use crate::set_days;
 use reference::layout::*;
 use reference::matching::pair;
@@ -131,7 +131,7 @@ fn set_days_reach() {
 #[test]
 fn kept_days_reach() {
     for program in ["check_settle", "check_steps"] {
-        let days = accepted(program, true);
+        let days = accepted(program, Kind::Sets);
         assert!(days.len() >= 60, "{program}");
         check_days(&days);
     }

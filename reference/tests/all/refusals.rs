@@ -1,10 +1,10 @@
-//! Refusals 1 to 18 (01 "Where each refusal is checked", 02 F-7).
+//! Refusals 1 to 18 (01 "Where each refusal is checked", 02 F-7 and F-6).
 
 use crate::{book_of, line_count, valid_days};
 use reference::cut::{cut, Cut};
 use reference::generate::{
-    damaged_day, damaged_day_and_number, damaged_line_and_number, set_fault_day_and_number,
-    set_fault_line_and_number,
+    damaged_day, damaged_day_and_number, damaged_line_and_number, pulled_fault_day_and_number,
+    pulled_fault_line_and_number, set_fault_day_and_number, set_fault_line_and_number,
 };
 use reference::k10::k10;
 use reference::layout::*;
@@ -52,6 +52,21 @@ fn set_faults_have_their_numbers() {
     }
     assert_eq!(days, [0, 5, 6, 13, 14].into());
     assert_eq!(lines, [0, 6, 18].into());
+}
+
+#[test]
+fn pulled_faults_have_their_numbers() {
+    let (mut days, mut lines) = (BTreeSet::new(), BTreeSet::new());
+    for seed in 0..1500 {
+        let (day, number) = pulled_fault_day_and_number(seed);
+        assert_eq!(day_number(&day), number, "seed {seed}");
+        days.insert(number);
+        let (line, number) = pulled_fault_line_and_number(seed);
+        assert_eq!(cut_number(&line), number, "seed {seed}");
+        lines.insert(number);
+    }
+    assert_eq!(days, [0, 6, 7, 8, 9, 10, 11, 12, 13, 14].into());
+    assert_eq!(lines, [0, 6, 7, 8, 9, 10, 11, 12, 13, 18].into());
 }
 
 /// Accreditation words on both sides of each limit, and the number of settling, view and cutter.
@@ -134,6 +149,10 @@ const K10_WORDS: &[(usize, u32, u32)] = &[
     (LINE + 18, 10_000_000, 0),
     (LINE + 18, 10_000_001, 9),
     (LINE + 27, 1, 10),
+    (LINE + 28, 0, 10), // the second bid's count; its slots aren't 0
+    (LINE + 28, 12, 7),
+    (LINE + 97, 0, 10),
+    (LINE + 97, u32::MAX, 7),
     (LINE + 124, 2000, 0),
     (LINE + 124, 2001, 12),
     (LINE + 134, 2000, 0),

@@ -25,12 +25,16 @@ fn ends(line: &[i128]) -> BTreeSet<i128> {
     ends
 }
 
-/// Uncapped price and flag.
-fn price(bid: &[i128], upper: i128) -> (i128, bool) {
-    let count = bid[0] as usize;
-    match (0..count).find(|k| bid[1 + k] >= upper) {
-        Some(k) => (bid[12 + k], false),
-        None => (bid[12 + count - 1], true),
+/// Uncapped price and flag in schedule s.
+fn price(line: &[i128], s: usize, upper: i128) -> (i128, bool) {
+    let bids: Vec<&[i128]> = line[5..120].chunks(23).collect();
+    let count = |bid: usize| bids[bid][0] as usize;
+    match (0..count(s)).find(|k| bids[s][1 + k] >= upper) {
+        Some(k) => (bids[s][12 + k], false),
+        None => {
+            let nearest = (0..=s).filter(|&bid| count(bid) > 0).max().unwrap();
+            (bids[nearest][12 + count(nearest) - 1], true)
+        }
     }
 }
 
@@ -73,7 +77,7 @@ impl Terms<'_> {
 
     fn prices(&self, upper: i128) -> [(i128, bool); 5] {
         std::array::from_fn(|s| {
-            let (price, flag) = price(&self.line[5 + 23 * s..], upper);
+            let (price, flag) = price(self.line, s, upper);
             let capped = self.market[5 + s] == 1;
             (
                 if capped {

@@ -5,11 +5,11 @@ use native.Mathlib.Decide.{decLt}
 use mathlib.Core.Path.{_≡_, refl}
 use mathlib.Core.List.{List}
 use lib.ListN.{getD}
-use Rattle.rules.specs.Layout.{quantityMost, hedge, bidBreak}
+use Rattle.rules.specs.Layout.{quantityMost, hedge, bidCount, bidBreak}
 use Rattle.rules.specs.Steps.{ends, stepCount, upperEnd, lowerEnd}
 use Rattle.laws.specs.Accepted.{AcceptedLine}
 use Rattle.cutter_cursors.specs.Sweep.{placeOf, far, gapOf, breakGap, nextGap}
-use Rattle.cutter_cursors.specs.Places.{most-limit, place-below}
+use Rattle.cutter_cursors.specs.Places.{most-limit, place-below, break-pulled}
 use Rattle.cutter_cursors.specs.Gaps.{gap-above, gap-from, least-base, least-term, least-from, break-gap}
 use Rattle.cutter.specs.Lists.{in-at, place-of, rises-at, rises-mono}
 use Rattle.cutter.specs.Ends.{EndOf, of-break, of-hedge, end-of, of-end, end-most, ends-rise}
@@ -27,15 +27,22 @@ module _ (w : List ℕ) (h : AcceptedLine w) where
       let t = least-base (gapOf (hedge w) e) 5 (breakGap w e) in
       omega arith
 
+  -- the break at a cursor, where it is above e, is an end
+  place-end : (e s : ℕ) → s < 5 → e < bidBreak w s (placeOf w s (suc e) - 1) → EndOf w (bidBreak w s (placeOf w s (suc e) - 1))
+  place-end e s l a =
+      elim (decLt 0 (bidCount w s)) [
+        | yes c ↦ of-break s (placeOf w s (suc e) - 1) l (place-below w s (suc e) c) refl
+        | no c ↦ let z = break-pulled (h .bids s l) (suc e) (omega arith) in absurd (omega arith)
+      ]
+
   gap-least : (e k : ℕ) → e ≤ quantityMost → k ≤ far → ((z : ℕ) → EndOf w z → e < z → k ≤ z - suc e) → k ≤ nextGap w e
   unfolding nextGap breakGap
   gap-least e k m l f =
       least-from (gapOf (hedge w) e) 5 k (breakGap w e)
       (gap-from (hedge w) e k m l (λ a. f (hedge w) (of-hedge (omega arith) refl) a))
       (λ s p.
-      let j = placeOf w s (suc e) - 1 in
-      gap-from (bidBreak w s j) e k m l
-      (λ a. f (bidBreak w s j) (of-break s j p (place-below w s (suc e) (h .bids s p .count-least)) refl) a))
+      let b = bidBreak w s (placeOf w s (suc e) - 1) in
+      gap-from b e k m l (λ a. f b (place-end e s p a) a))
 
   -- an end above the lower end of step n is at least its upper end
   next-end : (n z : ℕ) → n ≤ stepCount w → EndOf w z → lowerEnd w n < z → (n < stepCount w) × (upperEnd w n ≤ z)

@@ -46,7 +46,7 @@ pub record Swept (w : List ℕ) (n : ℕ) (at : Sweep) (e g : ℕ) (es ps : List
   pub missing : m ≡ missingTo w n
 
 pub sweep-first : {w : List ℕ} {at : Sweep} → Line w → at ≡ firstPlaces → SweepAt w at 1
-sweep-first h e = record { line = h; same = e ∙ first-places h }
+sweep-first h e = record { line = h; above = omega arith; same = e ∙ first-places h }
 
 pub swept-none : (w : List ℕ) (at : Sweep) (g : ℕ) → g ≡ nextGap w 0 → SweepAt w at (0 + 1 + g)
     → Swept w 0 at 0 g (replicate 56 0) (replicate 280 0) (record { first = 0; second = 0; third = 0; fourth = 0; fifth = 0 })

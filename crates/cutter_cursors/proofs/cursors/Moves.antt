@@ -12,7 +12,7 @@ use Rattle.rules.specs.Steps.{bidStep}
 use Rattle.rules.specs.Payments.{bit}
 use Rattle.cutter_cursors.specs.Search.{bid-first, first-mono}
 use Rattle.cutter_cursors.specs.Sweep.{Standing, past, placeOf, stopOf, gapOf, breakGap, leastTo, nextGap}
-use Rattle.cutter_cursors.specs.Places.{of-bid, place-below, step-after}
+use Rattle.cutter_cursors.specs.Places.{of-bid, place-below, break-pulled, step-after}
 
 -- a test as a number
 bit-ne : (a b : ℕ) → (a ≡ b → ⊥) → 0 ≡ bit (eqb a b)
@@ -66,8 +66,10 @@ gap-is x e b r p q f l g =
 pub break-most : {w : List ℕ} {s at u b : ℕ} → Standing w s at u → b ≡ bidBreak w s (at - 1) → b ≤ quantityMost
 break-most {w} {s} {at} {u} h e =
     let p = ap (λ (x : ℕ). bidBreak w s (x - 1)) (h .place) in
-    let m = of-bid h .break-most (placeOf w s u - 1) (place-below w s u (of-bid h .count-least)) in
-    omega arith
+    elim (decLt 0 (bidCount w s)) [
+      | yes c ↦ let m = of-bid h .break-most (placeOf w s u - 1) (place-below w s u c) in omega arith
+      | no c ↦ let z = break-pulled (of-bid h) u (omega arith) in omega arith
+    ]
 
 pub break-gap-is : {w : List ℕ} {s at e b r : ℕ} → Standing w s at (suc e) → b ≡ bidBreak w s (at - 1) → r ≡ gapOf b e → r ≡ breakGap w e s
 unfolding breakGap

@@ -53,7 +53,7 @@ break-number-requires : tie.Need-break-number-requires Inv-loop2 μ-loop2 Inv-lo
 break-number-requires c κs =
     let at-loop-test = c .before .before .before .before .before in
     let at-start = at-loop-test .before .before .before .before .before .before .before .before in
-    let count-few′ = count-few _ _ (c .before .before .before .count-number .ensures) (c .before .before .if3 .left) in
+    let count-few′ = count-few _ _ _ (c .before .before .before .count-number .ensures) (c .before .before .if3 .left) in
     (lent-length _ _ _ _ (omega arith) (at-start .pre .1), at-loop-test .loop-test .taken, omega (arith, count-few′))
 
 loop2-again : tie.Need-loop2-again Inv-loop2 μ-loop2 Inv-loop μ-loop Inv-lines μ-lines
@@ -67,7 +67,7 @@ slots-number-requires c κs =
     let at-start = after-bid-count .before .before .before .before .before .before .before .before .before in (
       lent-length _ _ _ _ (omega arith) (at-start .pre .1),
       after-bid-count .before .loop-test .taken,
-      count-few _ _ (c .before .before .before .count-number .ensures) (c .before .before .if3 .left),
+      count-few _ _ _ (c .before .before .before .count-number .ensures) (c .before .before .if3 .left),
       after-bid-count .bid-count .ensures,
     )
 

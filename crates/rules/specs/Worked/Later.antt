@@ -1,4 +1,4 @@
--- The worked days of document 02's requests: one lemma, computed on the definitions, and what it gives for each day.
+-- The worked days of document 02's requests: for each request one lemma, computed on the definitions, and what it gives for each day.
 use mathlib.Core.Path.{_≡_, refl}
 use mathlib.Core.List.{List, [], _∷_, _++_}
 use mathlib.Core.Bool.{true}
@@ -10,11 +10,15 @@ use Rattle.rules.specs.Worked.Cases.{Case, every}
 use Rattle.rules.specs.Worked.Opened.{opened}
 use Rattle.rules.specs.Worked.Laws.{all, part-holds, case-holds, number-holds}
 use Rattle.rules.specs.Worked.Lemma.{worked}
-use Rattle.rules.specs.Worked.Refused.{accreditationCases, refusedOpened}
+use Rattle.rules.specs.Worked.Refused.{accreditationCases, pulledCases, refusedOpened}
 use Rattle.rules.specs.Worked.Reschedule.{rescheduleDay, rescheduleBook, rescheduleText, rescheduleCasesOn, rescheduleCases, rescheduleOpened}
 use Rattle.rules.specs.Worked.Accredited1.{accredited1Cases, accredited1Opened}
 use Rattle.rules.specs.Worked.Accredited2.{accredited2Cases, accredited2Opened}
 use Rattle.rules.specs.Worked.Accredited3.{accredited3Cases, accredited3Opened}
+use Rattle.rules.specs.Worked.Pulled0.{pulled0Day, pulled0Book, pulled0Text, pulled0CasesOn, pulled0Cases, pulled0Opened}
+use Rattle.rules.specs.Worked.Pulled1.{pulled1Cases, pulled1Opened}
+use Rattle.rules.specs.Worked.Pulled2.{pulled2Cases, pulled2Opened}
+use Rattle.rules.specs.Worked.Pulled3.{pulled3Cases, pulled3Opened}
 
 -- F-7, accreditation within the day
 abbrev accreditedParts : List (List Case)
@@ -53,3 +57,38 @@ reschedule-book = case-holds rescheduleCases reschedule 1
 pub reschedule-report : reportText rescheduleDay ≡ rescheduleText
 unfolding rescheduleCasesOn rescheduleCases
 reschedule-report = case-holds rescheduleCases reschedule 2
+
+-- F-6, bids pulled in a reschedule
+abbrev pulledParts : List (List Case)
+pulledParts = pulled0Cases ∷ pulledCases ∷ pulled1Cases ∷ pulled2Cases ∷ pulled3Cases ∷ []
+
+pub pulled-days : every (all pulledParts) ≡ true
+unfolding opened pulled0Opened refusedOpened pulled1Opened pulled2Opened pulled3Opened
+pulled-days = let k = accredited-days in refl
+
+pub pulled-0 : every pulled0Cases ≡ true
+pulled-0 = part-holds pulledParts pulled-days 0
+
+pub pulled-refused : every pulledCases ≡ true
+pulled-refused = part-holds pulledParts pulled-days 1
+
+pub pulled-1 : every pulled1Cases ≡ true
+pulled-1 = part-holds pulledParts pulled-days 2
+
+pub pulled-2 : every pulled2Cases ≡ true
+pulled-2 = part-holds pulledParts pulled-days 3
+
+pub pulled-3 : every pulled3Cases ≡ true
+pulled-3 = part-holds pulledParts pulled-days 4
+
+pub pulled-0-accepted : dayFault pulled0Day ≡ 0
+unfolding pulled0CasesOn pulled0Cases
+pulled-0-accepted = number-holds (dayFault pulled0Day) 0 (case-holds pulled0Cases pulled-0 0)
+
+pub pulled-0-book : bookAfter pulled0Day (replicate 265 170) ≡ pulled0Book ++ (170 ∷ [])
+unfolding pulled0CasesOn pulled0Cases
+pulled-0-book = case-holds pulled0Cases pulled-0 1
+
+pub pulled-0-report : reportText pulled0Day ≡ pulled0Text
+unfolding pulled0CasesOn pulled0Cases
+pulled-0-report = case-holds pulled0Cases pulled-0 2

@@ -1,6 +1,5 @@
 -- The worked days and the refusals: one lemma, computed on the definitions, and what it gives for each day. What costs least is first: a wrong
 -- definition is refused at the first case that it changes.
-use Prim.Native.Nat.{ℕ}
 use mathlib.Core.Path.{_≡_, refl}
 use mathlib.Core.List.{List, [], _∷_, _++_}
 use mathlib.Core.Bool.{true}

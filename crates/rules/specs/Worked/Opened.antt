@@ -3,7 +3,7 @@ use Prim.Native.Nat.{ℕ}
 use Rattle.rules.specs.Fold.{refuse, _orElse_, first, before, sumTo, sumZ, mostTo, someTo, joined, listTo, sumOf, padded}
 use Rattle.rules.specs.Refusals.{headerFault, marketPriceFault, markFault, marketFault, breakFault, outOfOrder, orderFault, priceFault, unusedFault, bidFault}
 use Rattle.rules.specs.Refusals.{totalFault, actualFault, headFault, lineFaultWith, lineFault, lineFaultAt, sameKey, pairFault, keyFault, dayFault, settleFault, viewFault, linePartFault, cutFault}
-use Rattle.rules.specs.Steps.{bidMost, greatestBreak, insert, rising, bidBreaks, hedgePoint, ends, stepCount, upperEnd, lowerEnd, stepFrom, bidStep, price, flag}
+use Rattle.rules.specs.Steps.{bidMost, greatestBreak, insert, rising, bidBreaks, hedgePoint, ends, stepCount, upperEnd, lowerEnd, stepFrom, bidStep, source, lastPrice, price, flag}
 use Rattle.rules.specs.Steps.{capped, hedged, holdsIn, accredited, paid}
 use Rattle.rules.specs.Quantities.{pricingTotal, tableTotal, tableActual, allocated, leastFrom, lastAgino, agino, beyond, msiqFrom, msiq, constrained}
 use Rattle.rules.specs.Matching.{earlier, rise, fall, takes, leaves, openRises, matchesOf, matched, tenMatches}
@@ -22,7 +22,7 @@ unfoldable pub opened : ℕ
 unfolding refuse _orElse_ first before sumTo sumZ mostTo someTo joined listTo sumOf padded headerFault marketPriceFault markFault
     marketFault breakFault outOfOrder orderFault priceFault unusedFault bidFault totalFault actualFault headFault lineFaultWith lineFault
     lineFaultAt sameKey pairFault keyFault dayFault settleFault viewFault linePartFault cutFault bidMost greatestBreak insert rising bidBreaks
-    hedgePoint ends stepCount upperEnd lowerEnd stepFrom bidStep price flag capped hedged holdsIn accredited paid
+    hedgePoint ends stepCount upperEnd lowerEnd stepFrom bidStep source lastPrice price flag capped hedged holdsIn accredited paid
     pricingTotal tableTotal tableActual allocated leastFrom lastAgino agino beyond msiqFrom msiq
     constrained earlier rise fall takes leaves openRises matchesOf matched tenMatches operatingOn pricingOn actualOn
     aginoOn msiqOn constrainedOn onStep excess milder rate revisedRate isPaid initial givenBack initialOr

@@ -83,7 +83,7 @@ orderCases =
     ∷ number (dayFault (changed (set limitWords 21 12) 22 0)) 7
     ∷ number (dayFault (changed (set limitWords 32 200000001) 33 10000001)) 8
     ∷ number (dayFault (changed (set limitWords 56 10000001) 46 2)) 9
-    ∷ number (dayFault (changed (set limitWords 46 2) 67 0)) 10
+    ∷ number (dayFault (changed (set limitWords 46 2) 67 12)) 10
     ∷ number (dayFault (changed twoWords 19 2)) 6
     ∷ []
 
@@ -139,7 +139,33 @@ accreditationCases =
     ∷ number (viewFault (changed limitWords 19 64) 0 0) 6
     ∷ []
 
+-- document 02, F-6: the day at every limit with the bids of schedules 2 to 5 pulled; and the first one too
+unfoldable pub pulledWords : List ℕ
+pulledWords = concat (take 44 limitWords ∷ bid [] [] ∷ bid [] [] ∷ bid [] [] ∷ bid [] [] ∷ drop 136 limitWords ∷ [])
+
+unfoldable pub allPulled : List ℕ
+allPulled = concat (take 21 pulledWords ∷ bid [] [] ∷ drop 44 pulledWords ∷ [])
+
+-- accepted; refused with no bid in schedule 1; 12 steps in schedule 3; of a pulled bid the first and last slots of breaks and of prices; an unused
+-- slot, and 7 in the next bid; M is that of the bids that are there, for hedge and total; the cutter's and the view's number
+unfoldable pub pulledCases : List Case
+pulledCases =
+    number (dayFault (bytesOf pulledWords)) 0
+    ∷ number (dayFault (bytesOf allPulled)) 7
+    ∷ number (dayFault (changed pulledWords 67 12)) 7
+    ∷ number (dayFault (changed pulledWords 45 1)) 10
+    ∷ number (dayFault (changed pulledWords 55 1)) 10
+    ∷ number (dayFault (changed pulledWords 56 1)) 10
+    ∷ number (dayFault (changed pulledWords 135 1)) 10
+    ∷ number (dayFault (changed (set pulledWords 66 1) 67 12)) 10
+    ∷ number (dayFault (changed pulledWords 32 199999999)) 11
+    ∷ number (dayFault (changed (set pulledWords 20 0) 32 199999999)) 12
+    ∷ number (cutFault (drop 64 (bytesOf pulledWords))) 0
+    ∷ number (cutFault (drop 64 (bytesOf allPulled))) 7
+    ∷ number (viewFault (changed pulledWords 45 1) 0 0) 10
+    ∷ []
+
 -- all of this file, opened
 unfoldable pub refusedOpened : ℕ
-unfolding limitWords limitDay changed twoWords cutterCases answerCases refusedCases limitCases accreditationCases
+unfolding limitWords limitDay changed twoWords cutterCases answerCases refusedCases limitCases accreditationCases pulledWords allPulled pulledCases
 refusedOpened = 0
