@@ -3,14 +3,13 @@
 #include "mewikofu.h"
 #include <string.h>
 
-typedef uint32_t *Words;
-typedef int64_t *Money;
+typedef struct mewikofu_view View;
+typedef struct mewikofu_cut Cut;
 
 uint32_t real_mewikofu_settle(const uint8_t *, size_t, uint8_t *, size_t);
-uint32_t real_mewikofu_view(const uint8_t *, size_t, size_t, size_t, Words, Words, Words, Words, Words, Words, Words, Words, Words, Words, Words,
-                            Money, Money, Money, Money);
+View real_mewikofu_view(const uint8_t *, size_t, size_t, size_t);
 uint32_t real_mewikofu_line_part(const uint8_t *, size_t, size_t, size_t *, size_t *);
-uint32_t real_mewikofu_cut(const uint8_t *, size_t, Words, Words, Words, uint64_t *, Words);
+Cut real_mewikofu_cut(const uint8_t *, size_t);
 
 /* A copy of the bytes with each line from `at` on changed; none of longer bytes than a day's. */
 static inline const uint8_t *with_lines(const uint8_t *bytes, size_t length, size_t at, void (*change)(uint8_t *line))
@@ -31,23 +30,30 @@ static inline uint32_t word_at(const uint8_t *at)
     return word;
 }
 
+static inline void put_word(uint8_t *at, uint32_t word)
+{
+    memcpy(at, &word, sizeof word);
+}
+
 static inline void set_as_1(uint8_t *line)
 {
     uint32_t word = word_at(line + MEWIKOFU_ACCREDITATION);
-    word = word >= 33 && word <= 63 ? 1 : word;
-    memcpy(line + MEWIKOFU_ACCREDITATION, &word, sizeof word);
+    put_word(line + MEWIKOFU_ACCREDITATION, word >= 33 && word <= 63 ? 1 : word);
 }
 
 static inline void low_bits(uint8_t *line)
 {
-    uint32_t word = word_at(line + MEWIKOFU_ACCREDITATION) & 63;
-    memcpy(line + MEWIKOFU_ACCREDITATION, &word, sizeof word);
+    put_word(line + MEWIKOFU_ACCREDITATION, word_at(line + MEWIKOFU_ACCREDITATION) & 63);
 }
 
 /* A bid within a line: count, 11 breaks, 11 prices. */
 #define BID_BYTES 92
 #define BID_AT(s) (20 + BID_BYTES * (size_t)(s))
 #define PRICES 48
+
+/* Quantities within a line: pricing row r has the intervals from r on. */
+#define PRICING_AT(r, i) (480 + 4 * ((size_t)(r) * (11 - (r)) / 2 + (i) - (r)))
+#define OPERATING_AT(s, i) (540 + 20 * (size_t)(s) + 4 * (size_t)(i))
 
 static inline int is_pulled(const uint8_t *line, size_t s)
 {
@@ -61,12 +67,70 @@ static inline void bid_before(uint8_t *line)
             memcpy(line + BID_AT(s), line + BID_AT(s - 1), BID_BYTES);
 }
 
+/* M, of a line whose bids have no fault. */
+static inline uint64_t greatest_break(const uint8_t *line)
+{
+    uint32_t most = 0;
+    for (size_t s = 0; s < MEWIKOFU_SCHEDULES; s++)
+        for (size_t slot = 0; slot < 11; slot++)
+            most = word_at(line + BID_AT(s) + 4 + 4 * slot) > most ? word_at(line + BID_AT(s) + 4 + 4 * slot) : most;
+    return most;
+}
+
+/* The place of the entry for interval i in total t: pricing of schedule t, or operating of schedule t - 5. */
+static inline size_t entry_at(size_t t, size_t i)
+{
+    return t < 5 ? PRICING_AT(t < i ? t : i, i) : OPERATING_AT(t - 5, i);
+}
+
+static inline uint64_t total_of(const uint8_t *line, size_t t)
+{
+    uint64_t sum = 0;
+    for (size_t i = 0; i < 5; i++)
+        sum += word_at(line + entry_at(t, i));
+    return sum;
+}
+
+/* A total of M + 1,001 has one less in its last entry, where there is something. */
+static inline void one_less(uint8_t *line)
+{
+    for (size_t t = 0; t < 10; t++) {
+        uint8_t *last = line + entry_at(t, 4);
+        if (total_of(line, t) == greatest_break(line) + 1001 && word_at(last) > 0)
+            put_word(last, word_at(last) - 1);
+    }
+}
+
+/* A total of M + 1,000 has one more. */
+static inline void one_more(uint8_t *line)
+{
+    for (size_t t = 0; t < 10; t++) {
+        uint8_t *last = line + entry_at(t, 4);
+        if (total_of(line, t) == greatest_break(line) + 1000)
+            put_word(last, word_at(last) + 1);
+    }
+}
+
+/* Operating rows whose sum is above 32 bits become what is left of it there. */
+static inline void rows_in_32_bits(uint8_t *line)
+{
+    for (size_t t = 5; t < 10; t++) {
+        uint64_t sum = total_of(line, t);
+        for (size_t i = 0; sum >> 32 != 0 && i < 5; i++)
+            put_word(line + entry_at(t, i), i == 0 ? (uint32_t)sum : 0);
+    }
+}
+
 uint32_t mewikofu_settle(const uint8_t *day, size_t length, uint8_t *book, size_t room)
 {
     if (FAULT == 15)
         day = with_lines(day, length, MEWIKOFU_LINES_AT, set_as_1); /* a set of schedules is taken for all of them */
     if (FAULT == 18)
         day = with_lines(day, length, MEWIKOFU_LINES_AT, bid_before); /* a pulled bid is taken for the one before it */
+    if (FAULT == 22)
+        day = with_lines(day, length, MEWIKOFU_LINES_AT, one_more); /* a total of M + 1,000 is refused */
+    if (FAULT == 23)
+        day = with_lines(day, length, MEWIKOFU_LINES_AT, rows_in_32_bits); /* operating totals are summed in 32 bits */
     uint32_t number = real_mewikofu_settle(day, length, book, room);
     if (FAULT == 3 && number == MEWIKOFU_BOOK_SHORT && room > 95)
         book[95] ^= 1; /* a refused book is written to */
@@ -88,24 +152,45 @@ uint32_t mewikofu_settle(const uint8_t *day, size_t length, uint8_t *book, size_
     return number;
 }
 
-uint32_t mewikofu_view(const uint8_t *day, size_t length, size_t line, size_t step, Words end, Words width, Words actual, Words price, Words flag,
-                       Words operating, Words pricing, Words agino, Words msiq, Words constrained, Words matches, Money initial,
-                       Money revised, Money modified, Money finals)
+/* Faults in the excess of an accepted view. */
+static inline void change_excess(View *view, int is_last)
 {
-    uint32_t flag_before = flag[4], match_before = matches[9];
+    struct mewikofu_excess *excess = &view->excess;
+    for (size_t s = 0; s < MEWIKOFU_SCHEDULES; s++) {
+        uint32_t operating = excess->operating[s];
+        if (FAULT == 24) { /* the excess of operating and of pricing are each other's */
+            excess->operating[s] = excess->pricing[s];
+            excess->pricing[s] = operating;
+        }
+        if (FAULT == 25 && is_last)
+            view->constrained[s] += operating; /* the excess is constrained on */
+    }
+    if (FAULT == 26)
+        excess->actual = 0; /* the excess of the effective actual is left out */
+    if (FAULT == 27 && !is_last)
+        memset(excess, 0, sizeof *excess); /* the last step alone has the excess */
+    if (FAULT == 28)
+        excess->actual = excess->operating[4]; /* all of the excess is taken for delivered */
+}
+
+View mewikofu_view(const uint8_t *day, size_t length, size_t line, size_t step)
+{
     if (FAULT == 10)
         step = (uint32_t)step; /* a step above 2^32 is taken for a lower one */
     if (FAULT == 16)
         day = with_lines(day, length, MEWIKOFU_LINES_AT, set_as_1); /* a set of schedules is taken for all of them */
     if (FAULT == 19)
         day = with_lines(day, length, MEWIKOFU_LINES_AT, bid_before); /* a pulled bid is taken for the one before it */
-    uint32_t number = real_mewikofu_view(day, length, line, step, end, width, actual, price, flag, operating, pricing, agino, msiq, constrained,
-                                         matches, initial, revised, modified, finals);
-    if (FAULT == 6 && number != MEWIKOFU_ACCEPTED)
-        flag[4] = flag_before; /* a place is left unwritten where the view is refused */
-    if (FAULT == 11 && matches[9] != 0)
-        matches[9] = match_before; /* m(4,5) is left unwritten */
-    return number;
+    View view = real_mewikofu_view(day, length, line, step);
+    if (FAULT == 6 && view.number != MEWIKOFU_ACCEPTED)
+        view.flag[4] = 1; /* a refused view has a flag */
+    if (FAULT == 11)
+        view.matches[9] = 0; /* m(4,5) is left out */
+    if (FAULT == 29 && view.number != MEWIKOFU_ACCEPTED)
+        view.excess.actual = 1; /* a refused view has an excess */
+    if (FAULT >= 24 && FAULT <= 28 && view.number == MEWIKOFU_ACCEPTED)
+        change_excess(&view, real_mewikofu_view(day, length, line, step + 1).number == MEWIKOFU_NO_STEP);
+    return view;
 }
 
 uint32_t mewikofu_line_part(const uint8_t *day, size_t length, size_t k, size_t *at, size_t *part_length)
@@ -118,22 +203,25 @@ uint32_t mewikofu_line_part(const uint8_t *day, size_t length, size_t k, size_t 
     return number;
 }
 
-uint32_t mewikofu_cut(const uint8_t *line, size_t length, Words count, Words ends, Words prices, uint64_t *flags, Words missing)
+Cut mewikofu_cut(const uint8_t *line, size_t length)
 {
-    uint32_t missing_before = missing[4];
     if (FAULT == 17)
         line = with_lines(line, length, 0, low_bits); /* an accreditation above 63 is taken for a lower one */
-    uint32_t number = real_mewikofu_cut(line, length, count, ends, prices, flags, missing);
-    if (FAULT == 7 && number != MEWIKOFU_ACCEPTED)
-        missing[4] = missing_before; /* a place is left unwritten where the line is refused */
-    if (FAULT == 14 && *count == MEWIKOFU_MOST_STEPS)
-        ends[55]--; /* the 56th end is one less */
-    for (size_t s = 1; number == MEWIKOFU_ACCEPTED && s < MEWIKOFU_SCHEDULES; s++) {
+    if (FAULT == 30)
+        line = with_lines(line, length, 0, one_less); /* a total of M + 1,001 is accepted */
+    Cut cut = real_mewikofu_cut(line, length);
+    if (FAULT == 7 && cut.number != MEWIKOFU_ACCEPTED)
+        cut.missing[4] = 1; /* a refused cut has a flag set */
+    if (FAULT == 31)
+        cut.reserved = cut.count; /* the reserved word isn't 0 */
+    if (FAULT == 14 && cut.count == MEWIKOFU_MOST_STEPS)
+        cut.ends[55]--; /* the 56th end is one less */
+    for (size_t s = 1; cut.number == MEWIKOFU_ACCEPTED && s < MEWIKOFU_SCHEDULES; s++) {
         if (FAULT == 20 && is_pulled(line, s))
-            for (size_t k = 0; k < *count; k++) /* the last price of the first bid, not of the nearest */
-                prices[MEWIKOFU_PRICE_AT(s, k)] = word_at(line + BID_AT(0) + PRICES + 4 * (word_at(line + BID_AT(0)) - 1));
+            for (size_t k = 0; k < cut.count; k++) /* the last price of the first bid, not of the nearest */
+                cut.prices[s][k] = word_at(line + BID_AT(0) + PRICES + 4 * (word_at(line + BID_AT(0)) - 1));
         if (FAULT == 21 && is_pulled(line, s))
-            flags[s] |= (uint64_t)1 << *count; /* a flag past the count */
+            cut.flags[s] |= (uint64_t)1 << cut.count; /* a flag past the count */
     }
-    return number;
+    return cut;
 }

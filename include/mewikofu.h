@@ -7,9 +7,10 @@
    Bytes. A function takes any bytes: no input is left out of its contract, which stands in crates/engine_c/src and crates/cutter_c/src.
 
    Pointers. They are the caller's part: the contracts speak of lent bytes, not of addresses. Each pointer lends as many bytes or values as are declared here,
-   aligned for its type; the bytes at `day` and `line` are read, all other places are written. A written place may not overlap another written place nor the
-   bytes that are read: with overlapping arrays the answer is not defined. NULL is a valid pointer only where the length beside it is 0. No other thread
-   may write to what is lent while a call runs. Nothing is kept after it.
+   aligned for its type; the bytes at `day` and `line` are read, the bytes at `book` and the places `at` and `part_length` are written. A written place may not
+   overlap another written place nor the bytes that are read: with overlapping places the answer is not defined. NULL is a valid pointer only where the length
+   beside it is 0. No other thread may write to what is lent while a call runs. Nothing is kept after it. The step view and the cutter answer one struct by
+   value: its place is the caller's own, as for every function that answers a struct, and nothing is lent for it.
 
    Threads and signals. The functions have no writable data, take no memory from the heap and call nothing but memcpy and memset. So any number of threads may
    call them at once without a lock, each with places of its own to be written; the bytes that are read may be shared. They may be called from a signal handler.
@@ -21,12 +22,15 @@
 #include <stdint.h>
 
 #ifdef __cplusplus
+/* Two functions have the names of the structs that they answer, so these are named with `struct` in C++ too. */
+#pragma GCC diagnostic push
+#pragma GCC diagnostic ignored "-Wshadow"
 extern "C" {
 #endif
 
 /* The version of this header; the number is 10000 major + 100 minor + patch. tools/version writes both from the file VERSION. */
-#define MEWIKOFU_VERSION "0.2.0"
-#define MEWIKOFU_VERSION_NUMBER 200
+#define MEWIKOFU_VERSION "0.3.0"
+#define MEWIKOFU_VERSION_NUMBER 300
 
 /* The version of the library that is linked, as MEWIKOFU_VERSION has it: a shared object may be another one than the header's. The installed libraries and the
    shared object have this function; the archives of target/staticlib have the proved functions alone. */
@@ -48,7 +52,7 @@ const char *mewikofu_version(void);
 #define MEWIKOFU_PRICES 9                /* each line: a bid's price > 10,000,000, or < the one before (withdrawal: > the one before) */
 #define MEWIKOFU_UNUSED_SLOT 10          /* each line: a break or price past the bid's count isn't 0 */
 #define MEWIKOFU_HEDGE 11                /* each line: hedge > M (withdrawal: > 0) */
-#define MEWIKOFU_TOTALS 12               /* each line: a schedule's pricing or operating total > M */
+#define MEWIKOFU_TOTALS 12               /* each line: a schedule's pricing or operating total > M + 1,000 */
 #define MEWIKOFU_ACTUALS 13              /* each line: an interval's actual > 200,000,000 */
 #define MEWIKOFU_EQUAL_KEYS 14           /* all lines: participant, point and side are those of an earlier line */
 #define MEWIKOFU_BOOK_SHORT 15           /* book: fewer than 96 + 56 n bytes lent */
@@ -72,7 +76,7 @@ static inline const char *mewikofu_words(uint32_t number)
         "a bid's price is above 10,000,000 price units, or falls (withdrawal: rises)",
         "an unused slot of a bid isn't 0",
         "a hedge is above the line's greatest break, or isn't 0 on a withdrawal",
-        "a pricing or operating total is above the line's greatest break",
+        "a pricing or operating total is more than 1,000 MJ above the line's greatest break",
         "an actual is above 200,000,000 MJ",
         "two lines have the same participant, point and side",
         "the lent book is under 96 + 56 n bytes",
@@ -89,6 +93,9 @@ static inline const char *mewikofu_words(uint32_t number)
 #define MEWIKOFU_SCHEDULES 5
 #define MEWIKOFU_MOST_STEPS 56
 #define MEWIKOFU_MATCHES 10
+
+/* The most MJ by which a pricing or operating total may be above M. */
+#define MEWIKOFU_MOST_EXCESS 1000
 
 /* The day file: 32-bit unsigned little-endian words. Offsets in bytes. */
 #define MEWIKOFU_MARKET_AT 16
@@ -132,9 +139,7 @@ static inline int mewikofu_accredited(uint32_t word, size_t s)
 #define MEWIKOFU_PAYMENT(s) (16 + 8 * (size_t)(s))
 #define MEWIKOFU_BOOK_BYTES(n) (MEWIKOFU_ENTRIES_AT + MEWIKOFU_ENTRY_BYTES * (size_t)(n))
 
-/* The place of step k's price in schedule s (both from 0) among the cutter's prices, and of m(r, s) with r below s (both from 0) among the
-   view's matches. */
-#define MEWIKOFU_PRICE_AT(s, k) (MEWIKOFU_MOST_STEPS * (s) + (k))
+/* The place of m(r, s) with r below s (both from 0) among the view's matches. */
 #define MEWIKOFU_MATCH_AT(r, s) ((s) * ((s) - 1) / 2 + (r))
 
 /* Settles a day, the `length` bytes at `day`, into the book lent, `room` bytes at `book`. Answers the number; header, market, each line, all lines
@@ -142,39 +147,70 @@ static inline int mewikofu_accredited(uint32_t word, size_t s)
    with any other number every lent byte is as it was. */
 uint32_t mewikofu_settle(const uint8_t *day, size_t length, uint8_t *book, size_t room);
 
-/* The step view: every figure of step `step` of line `line` (both from 0). Answers the number; header, market, each line, all lines and view are
-   checked, in this order. Writes every lent place: all are 0 where the number isn't. By schedule:
-   price      capped          flag       1 where the bid has no price for the step, or was pulled
-   operating  O               pricing    E
-   agino      AGINO           msiq       MSIQ           constrained  C
-   initial, revised, modified, finals    payments, in $0.0000001
-   and end, width, actual (A), and the ten matches m(1,2) m(1,3) m(2,3) m(1,4) .. m(4,5), at MEWIKOFU_MATCH_AT. */
-uint32_t mewikofu_view(const uint8_t *day, size_t length, size_t line, size_t step, uint32_t *end, uint32_t *width, uint32_t *actual,
-                       uint32_t price[MEWIKOFU_SCHEDULES], uint32_t flag[MEWIKOFU_SCHEDULES], uint32_t operating[MEWIKOFU_SCHEDULES],
-                       uint32_t pricing[MEWIKOFU_SCHEDULES], uint32_t agino[MEWIKOFU_SCHEDULES], uint32_t msiq[MEWIKOFU_SCHEDULES],
-                       uint32_t constrained[MEWIKOFU_SCHEDULES], uint32_t matches[MEWIKOFU_MATCHES], int64_t initial[MEWIKOFU_SCHEDULES],
-                       int64_t revised[MEWIKOFU_SCHEDULES], int64_t modified[MEWIKOFU_SCHEDULES], int64_t finals[MEWIKOFU_SCHEDULES]);
+/* Excess: what no step takes of a line's operating total (by schedule), pricing total (by schedule) and effective actual, since it is above M. In MJ, at most
+   MEWIKOFU_MOST_EXCESS. It is never constrained on and never paid. */
+struct mewikofu_excess {
+    uint32_t operating[MEWIKOFU_SCHEDULES];
+    uint32_t pricing[MEWIKOFU_SCHEDULES];
+    uint32_t actual;
+};
+
+/* What the step view answers: every figure of a step. Arrays are by schedule, but `matches`. Payments are in $0.0000001, prices in $0.0001 per GJ, quantities
+   in MJ. The excess is the line's, so the same for each of its steps; with it `operating`, `pricing` and `actual` of all its steps add up to the line's totals
+   and its effective actual. 400 bytes without padding. */
+struct mewikofu_view {
+    int64_t initial[MEWIKOFU_SCHEDULES];      /* initial payment */
+    int64_t revised[MEWIKOFU_SCHEDULES];      /* revised payment */
+    int64_t modified[MEWIKOFU_SCHEDULES];     /* modified payment */
+    int64_t finals[MEWIKOFU_SCHEDULES];       /* final payment */
+    uint32_t number;                          /* the number; where it isn't 0 all other fields are 0 */
+    uint32_t end;                             /* upper end */
+    uint32_t width;                           /* upper end less the one before */
+    uint32_t actual;                          /* A, effective actual */
+    uint32_t price[MEWIKOFU_SCHEDULES];       /* capped */
+    uint32_t flag[MEWIKOFU_SCHEDULES];        /* 1 where the bid has no price for the step, or was pulled */
+    uint32_t operating[MEWIKOFU_SCHEDULES];   /* O */
+    uint32_t pricing[MEWIKOFU_SCHEDULES];     /* E */
+    uint32_t agino[MEWIKOFU_SCHEDULES];       /* AGINO */
+    uint32_t msiq[MEWIKOFU_SCHEDULES];        /* MSIQ */
+    uint32_t constrained[MEWIKOFU_SCHEDULES]; /* C */
+    uint32_t matches[MEWIKOFU_MATCHES];       /* m(1,2) m(1,3) m(2,3) m(1,4) .. m(4,5), at MEWIKOFU_MATCH_AT */
+    struct mewikofu_excess excess;            /* of the line */
+};
+
+/* The step view: step `step` of line `line` (both from 0). Header, market, each line, all lines and view are checked, in this order. */
+struct mewikofu_view mewikofu_view(const uint8_t *day, size_t length, size_t line, size_t step);
 
 /* The bytes of line k (from 0) within the day's own: they are the `part_length` bytes from byte `at` of the day on. Answers the number; header and
    line part are checked, in this order. Where it isn't 0 both places are 0 and the part is empty. */
 uint32_t mewikofu_line_part(const uint8_t *day, size_t length, size_t k, size_t *at, size_t *part_length);
 
-/* The cutter, of libcutter_c.a. Cuts one line of a day file, the `length` bytes at `line`. Answers the number; cutter and each line are checked, in this
-   order. Writes every lent place:
-   count    how many steps, at most 56
-   ends     their upper ends, rising
-   prices   their uncapped prices, at MEWIKOFU_PRICE_AT
-   flags    for each schedule a word of missing-price flags, bit k for step k from 0
-   missing  for each schedule how many flags are set
-   In a schedule whose bid was pulled (its count is 0) every step is flagged and has the last price of the nearest earlier bid that wasn't pulled. A bid with
-   steps has a price for the line's first step, so bit 0 of a schedule's flags says whether its bid was pulled.
-   Places past the count are 0. Where the number isn't 0 all places are 0. */
-uint32_t mewikofu_cut(const uint8_t *line, size_t length, uint32_t *count, uint32_t ends[MEWIKOFU_MOST_STEPS],
-                      uint32_t prices[MEWIKOFU_SCHEDULES * MEWIKOFU_MOST_STEPS], uint64_t flags[MEWIKOFU_SCHEDULES],
-                      uint32_t missing[MEWIKOFU_SCHEDULES]);
+/* What the cutter answers: a line's steps. Places past the count are 0. In a schedule whose bid was pulled (its count is 0) every step is flagged and has the
+   last price of the nearest earlier bid that wasn't pulled. A bid with steps has a price for the line's first step, so bit 0 of a schedule's flags says whether
+   its bid was pulled. 1,416 bytes without padding. */
+struct mewikofu_cut {
+    uint64_t flags[MEWIKOFU_SCHEDULES];                       /* for each schedule a word of missing-price flags, bit k for step k from 0 */
+    uint32_t number;                                          /* the number; where it isn't 0 all other fields are 0 */
+    uint32_t count;                                           /* how many steps, at most 56 */
+    uint32_t missing[MEWIKOFU_SCHEDULES];                     /* for each schedule how many flags are set */
+    uint32_t ends[MEWIKOFU_MOST_STEPS];                       /* the steps' upper ends in MJ, rising */
+    uint32_t prices[MEWIKOFU_SCHEDULES][MEWIKOFU_MOST_STEPS]; /* uncapped, in $0.0001 per GJ: prices[s][k] of step k in schedule s, both from 0 */
+    uint32_t reserved;                                        /* always 0 */
+};
+
+/* The cutter, of libcutter_c.a. Cuts one line of a day file, the `length` bytes at `line`. Cutter and each line are checked, in this order. */
+struct mewikofu_cut mewikofu_cut(const uint8_t *line, size_t length);
+
+/* The archives were compiled for these sizes. */
+#if defined __cplusplus && __cplusplus >= 201103L
+static_assert(sizeof(struct mewikofu_view) == 400 && sizeof(struct mewikofu_cut) == 1416, "the answers have no padding");
+#elif defined __STDC_VERSION__ && __STDC_VERSION__ >= 201112L
+_Static_assert(sizeof(struct mewikofu_view) == 400 && sizeof(struct mewikofu_cut) == 1416, "the answers have no padding");
+#endif
 
 #ifdef __cplusplus
 }
+#pragma GCC diagnostic pop
 #endif
 
 #endif

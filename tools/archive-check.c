@@ -36,11 +36,11 @@ static void nothing(void) { number = 0; }
 
 static void settle(void) { number = mewikofu_settle(day, length, book, sizeof book); }
 
+/* What a view and a cut take is counted with the place of their answer. */
 static void view(void)
 {
-    static uint32_t w[3], s[7][5], m[10];
-    static int64_t p[4][5];
-    number = mewikofu_view(day, length, 63, 0, &w[0], &w[1], &w[2], s[0], s[1], s[2], s[3], s[4], s[5], s[6], m, p[0], p[1], p[2], p[3]);
+    struct mewikofu_view answer = mewikofu_view(day, length, 63, 0);
+    number = answer.number;
 }
 
 static void line_part(void)
@@ -51,9 +51,8 @@ static void line_part(void)
 
 static void cut(void)
 {
-    static uint32_t count, ends[56], prices[280], missing[5];
-    static uint64_t flags[5];
-    number = mewikofu_cut(day + MEWIKOFU_LINE_AT(63), MEWIKOFU_LINE_BYTES, &count, ends, prices, flags, missing);
+    struct mewikofu_cut answer = mewikofu_cut(day + MEWIKOFU_LINE_AT(63), MEWIKOFU_LINE_BYTES);
+    number = answer.number;
 }
 
 static void put_word(size_t at, uint32_t value)

@@ -7,7 +7,7 @@ mod views;
 
 use reference::cut::Cut;
 use reference::generate::line_with_steps;
-use reference::layout::{Line, Side, MOST_STEPS, SCHEDULES};
+use reference::layout::{Line, Side};
 use reference::refusal::cut_number;
 use std::hint::black_box;
 use std::process::ExitCode;
@@ -18,13 +18,14 @@ const USAGE: &str = "usage: bench                                    times
        bench settle SETTLER LINES CLAWBACK TIMES  settles the days of a kind so many times over, likewise
 CUTTER: proved, reference, sorted, checked (the reference's refusals alone); SIDE: INJ, WDR; SETTLER: proved, reference; CLAWBACK: 0, 1";
 
-type Cutter = fn(&[u8], &mut Cut);
+/// Cuts lines one after another.
+type Cutter = fn(&[Vec<u8>]);
 
 const CUTTERS: [(&str, Cutter); 4] = [
-    ("proved", proved::cut),
-    ("reference", reference_cut),
-    ("sorted", sorted::cut),
-    ("checked", checked),
+    ("proved", |lines| pass(proved::cut, lines)),
+    ("reference", |lines| pass(reference_cut, lines)),
+    ("sorted", |lines| pass(sorted::cut, lines)),
+    ("checked", |lines| pass(checked, lines)),
 ];
 
 /// Side and steps of each kind of line. A withdrawal has no hedge, so at most 55 steps.
@@ -42,13 +43,13 @@ const LINES: usize = 256;
 const ROUNDS: usize = 201;
 
 #[inline(never)]
-fn reference_cut(line: &[u8], answer: &mut Cut) {
-    *answer = reference::cut::cut(line);
+fn reference_cut(line: &[u8]) -> Cut {
+    reference::cut::cut(line)
 }
 
 #[inline(never)]
-fn checked(line: &[u8], answer: &mut Cut) {
-    answer.number = cut_number(line);
+fn checked(line: &[u8]) -> u32 {
+    cut_number(line)
 }
 
 fn main() -> ExitCode {
@@ -81,7 +82,7 @@ fn main() -> ExitCode {
                 return ExitCode::from(2);
             };
             let lines = lines_of(side, steps);
-            (0..times).for_each(|_| pass(*cutter, &lines));
+            (0..times).for_each(|_| cutter(&lines));
         }
         _ => {
             eprintln!("{USAGE}");
@@ -89,17 +90,6 @@ fn main() -> ExitCode {
         }
     }
     ExitCode::SUCCESS
-}
-
-fn empty() -> Cut {
-    Cut {
-        number: 0,
-        count: 0,
-        ends: [0; MOST_STEPS],
-        prices: [[0; MOST_STEPS]; SCHEDULES],
-        flags: [0; SCHEDULES],
-        missing: [0; SCHEDULES],
-    }
 }
 
 /// Generated lines of a kind.
@@ -113,29 +103,17 @@ fn lines_of(side: &str, steps: usize) -> Vec<Vec<u8>> {
     lines.filter(of_side).take(LINES).collect()
 }
 
-fn pass(cutter: Cutter, lines: &[Vec<u8>]) {
-    let mut answer = empty();
+fn pass<T>(cutter: fn(&[u8]) -> T, lines: &[Vec<u8>]) {
     for line in lines {
-        cutter(black_box(line), &mut answer);
-        black_box(&answer);
+        black_box(&cutter(black_box(line)));
     }
 }
 
-/// The three cutters answer alike, whatever stood in the answer before.
+/// The three cutters answer alike.
 fn compare(line: &[u8]) {
-    let expected = reference::cut::cut(line);
-    for (name, cutter) in &CUTTERS[..3] {
-        let mut answer = Cut {
-            number: u32::MAX,
-            count: u32::MAX,
-            ends: [u32::MAX; MOST_STEPS],
-            prices: [[u32::MAX; MOST_STEPS]; SCHEDULES],
-            flags: [u64::MAX; SCHEDULES],
-            missing: [u32::MAX; SCHEDULES],
-        };
-        cutter(line, &mut answer);
-        assert_eq!(answer, expected, "{name}");
-    }
+    let expected = reference_cut(line);
+    assert_eq!(sorted::cut(line), expected);
+    assert_eq!(proved::cut(line), proved::expected_cut(expected));
 }
 
 /// Lines of both sides, every count of steps, every refusal and every length up to one too long.
@@ -196,7 +174,7 @@ fn times() {
             for turn in 0..CUTTERS.len() {
                 let which = (round + turn) % CUTTERS.len();
                 let start = Instant::now();
-                pass(CUTTERS[which].1, &lines);
+                CUTTERS[which].1(&lines);
                 taken[which].push(start.elapsed().as_nanos() as f64 / LINES as f64);
             }
         }

@@ -5,8 +5,8 @@ use reference::layout::*;
 use reference::refusal::cut_number;
 
 #[inline(never)]
-pub fn cut(bytes: &[u8], answer: &mut Cut) {
-    *answer = Cut {
+pub fn cut(bytes: &[u8]) -> Cut {
+    let mut answer = Cut {
         number: cut_number(bytes),
         count: 0,
         ends: [0; MOST_STEPS],
@@ -23,6 +23,7 @@ pub fn cut(bytes: &[u8], answer: &mut Cut) {
             answer.missing[bid] = answer.flags[bid].count_ones();
         }
     }
+    answer
 }
 
 /// Answers how many ends there are.

@@ -51,7 +51,9 @@ const STEPS: &str = "\
 Prints every figure of every step, as the proved program `steps` does. After `line K` come \
 participant, point, side and step count; after `step J` the upper end, the width and the effective \
 actual A; then a row for each schedule: price, flag, O, E, AGINO, MSIQ, C, and the initial, \
-revised, modified and final payment; then the ten matches m(1,2) m(1,3) m(2,3) m(1,4) .. m(4,5).";
+revised, modified and final payment; then the ten matches m(1,2) m(1,3) m(2,3) m(1,4) .. m(4,5). \
+After a line's last step come `excess pricing` and five quantities, `operating` and five, `actual` \
+and one: what no step takes.";
 
 const CUT: &str = "\
 Cuts a line's bids at every break and at the hedge, as the proved program `cut` does: each step's \

@@ -4,7 +4,7 @@ use crate::input::{read_day, Input};
 use crate::layout::*;
 use crate::outcome::{Problem, Result};
 use crate::refusals::explain_day;
-use mewikofu::{Accreditation, Book, BookLine, Refusal, View};
+use mewikofu::{Accreditation, Book, BookLine, Excess, Refusal, View};
 use rayon::prelude::*;
 use std::ffi::OsStr;
 
@@ -66,6 +66,17 @@ impl Line {
     /// The schedules, from 1, whose bids were pulled.
     pub fn pulled(&self) -> Vec<usize> {
         (1..=SCHEDULES).filter(|s| self.is_pulled(s - 1)).collect()
+    }
+
+    /// M. A hedge is at most M, so the last step ends there.
+    pub fn greatest_break(&self) -> u32 {
+        self.steps.last().map_or(0, |step| step.end)
+    }
+
+    /// What no step takes of the totals. The views of all steps have it.
+    pub fn excess(&self) -> Excess {
+        let first = self.steps.first();
+        first.map_or(Excess::default(), |step| step.excess)
     }
 
     pub fn is_hedged(&self, step: &View) -> bool {

@@ -1,6 +1,6 @@
 //! Places of the day file and the book (document 01, "Units and the day file", "Totals and book"). Schedules, lines, bids, slots and intervals count from 0.
 
-pub use mewikofu::{book_bytes, LINE_BYTES, MOST_LINES, SCHEDULES};
+pub use mewikofu::{book_bytes, LINE_BYTES, MOST_EXCESS, MOST_LINES, SCHEDULES};
 
 /// One value for each schedule.
 pub type BySchedule<T> = [T; SCHEDULES];

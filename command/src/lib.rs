@@ -7,6 +7,7 @@ pub mod book;
 pub mod check;
 pub mod cut;
 pub mod draw;
+pub mod excess;
 pub mod explain;
 pub mod figures;
 pub mod form;

@@ -360,7 +360,7 @@ impl LineFaults<'_> {
         (0..SCHEDULES).map(last).fold(0, u32::max)
     }
 
-    /// M as a limit, and which bids aren't in it.
+    /// M, and which bids aren't in it.
     fn greatest_break_words(&self, most: u32) -> String {
         let pulled: Vec<usize> = (1..=SCHEDULES).filter(|s| self.count(s - 1) == 0).collect();
         let pulled = match &pulled[..] {
@@ -368,7 +368,7 @@ impl LineFaults<'_> {
             pulled => format!(" (the {})", pulled_words(pulled)),
         };
         let most = number(most);
-        format!("the most is the greatest break of its bids, {most} MJ{pulled}")
+        format!("the greatest break of its bids, {most} MJ{pulled}")
     }
 
     /// Refusals 7 to 10.
@@ -532,7 +532,10 @@ impl LineFaults<'_> {
     fn find_hedge(&mut self, most: u32) {
         let hedge = self.word(HEDGE);
         let (limit, words) = match self.word(SIDE) {
-            0 => (most, self.greatest_break_words(most)),
+            0 => (
+                most,
+                format!("the most is {}", self.greatest_break_words(most)),
+            ),
             1 => (0, "on a withdrawal it must be 0".to_string()),
             _ => return,
         };
@@ -552,28 +555,34 @@ impl LineFaults<'_> {
         let Totals {
             pricing, operating, ..
         } = Totals::new(self.line);
+        let limit = u64::from(most + MOST_EXCESS);
         for (name, totals) in [("pricing", pricing), ("operating", operating)] {
             for (s, total) in totals.into_iter().enumerate() {
-                if total > u64::from(most) {
+                if total > limit {
                     let fault = Fault {
                         number: 12,
                         schedule: Some(s + 1),
                         value: total,
-                        limit: Some(most.into()),
+                        limit: Some(limit),
                         ..Fault::default()
                     };
-                    let limit = self.greatest_break_words(most);
+                    let words = self.total_words(most, total);
                     self.put(
                         fault,
-                        format!(
-                            "{name} total of schedule {}: {} MJ; {limit}",
-                            s + 1,
-                            number(total)
-                        ),
+                        format!("{name} total of schedule {}: {words}", s + 1),
                     );
                 }
             }
         }
+    }
+
+    /// A total above M + 1,000 MJ, and by how much.
+    fn total_words(&self, most: u32, total: u64) -> String {
+        let limit = u64::from(most + MOST_EXCESS);
+        let [total, above] = [total, total - limit].map(number);
+        let (limit, excess) = (number(limit), number(MOST_EXCESS));
+        let most = self.greatest_break_words(most);
+        format!("{total} MJ, which is {above} MJ too much; the most is {limit} MJ, which is {excess} MJ above {most}")
     }
 
     /// Refusal 13.

@@ -7,7 +7,7 @@ use crate::layout::SCHEDULES;
 use crate::outcome::{each, Result, Status};
 use crate::output::{numbered, put_json, Format, Table, Unit};
 use crate::settle::{put, side_word};
-use mewikofu::{match_place, BookLine, View, MATCHES};
+use mewikofu::{match_place, BookLine, Excess, View, MATCHES};
 use serde_json::{json, Value};
 use std::io::Write;
 
@@ -77,8 +77,19 @@ pub fn text(figures: &Figures) -> String {
             }
             put(&mut text, "matches", &step.matches);
         }
+        put_excess(&mut text, line.excess());
     }
     text
+}
+
+/// The last row of a line.
+fn put_excess(text: &mut String, excess: Excess) {
+    let row = |values: [u32; SCHEDULES]| values.map(|value| value.to_string()).join(" ");
+    let [pricing, operating] = [excess.pricing, excess.operating].map(row);
+    let actual = excess.actual;
+    text.push_str(&format!(
+        "excess pricing {pricing} operating {operating} actual {actual}\n"
+    ));
 }
 
 /// Price, flag, O, E, AGINO, MSIQ and C.
@@ -132,7 +143,20 @@ fn columns(unit: Unit) -> Vec<String> {
     columns.extend(numbered("match", SCHEDULES - 1, ""));
     columns
         .extend(["initial", "revised", "modified", "final"].map(|name| format!("{name}_{unit}")));
+    columns.extend(EXCESS_COLUMNS.map(String::from));
     columns
+}
+
+/// The line's excess in a table with a row for each step and schedule.
+pub const EXCESS_COLUMNS: [&str; 3] = ["operating_excess", "pricing_excess", "actual_excess"];
+
+pub fn excess_cells(step: &View, s: usize) -> [String; 3] {
+    let Excess {
+        operating,
+        pricing,
+        actual,
+    } = step.excess;
+    [operating[s], pricing[s], actual].map(|value| value.to_string())
 }
 
 fn put_table(table: &mut Table, name: &str, figures: &Figures, unit: Unit) -> Result<()> {
@@ -162,6 +186,7 @@ fn put_table(table: &mut Table, name: &str, figures: &Figures, unit: Unit) -> Re
                     }
                 }));
                 row.extend(payments(step, s).map(|value| unit.money(value)));
+                row.extend(excess_cells(step, s));
                 table.row(&row)?;
             }
         }
@@ -182,7 +207,12 @@ fn line_json(line: &Line) -> Value {
         "point": line.entry.point,
         "side": side_word(line.entry.side),
         "steps": steps,
+        "excess": excess_json(line.excess()),
     })
+}
+
+fn excess_json(excess: Excess) -> Value {
+    json!({ "operating": excess.operating, "pricing": excess.pricing, "actual": excess.actual })
 }
 
 pub fn step_json(step: &View) -> Value {

@@ -1,4 +1,4 @@
-/* Settles the day file named on the command line and prints its lines and totals.
+/* Settles the day file named on the command line and prints its lines, with their excess where it isn't 0, and totals.
    Ends with 0 where the day is settled, 1 where it is refused, 2 where the file can't be read or the output can't be written. */
 #include "mewikofu.h"
 
@@ -36,11 +36,42 @@ static void print_line(const uint8_t *entry)
     printf("\n");
 }
 
-static void print_book(void)
+static uint32_t sum(const uint32_t row[MEWIKOFU_SCHEDULES])
+{
+    uint32_t all = 0;
+    for (int s = 0; s < MEWIKOFU_SCHEDULES; s++)
+        all += row[s];
+    return all;
+}
+
+static void print_row(const char *name, const uint32_t row[MEWIKOFU_SCHEDULES])
+{
+    printf(" %s", name);
+    for (int s = 0; s < MEWIKOFU_SCHEDULES; s++)
+        printf(" %" PRIu32, row[s]);
+    printf(";");
+}
+
+/* What no step of line k takes of its totals. The views of all its steps have it. */
+static void print_excess(size_t length, uint32_t k)
+{
+    struct mewikofu_view view = mewikofu_view(day, length, k, 0);
+    struct mewikofu_excess excess = view.excess;
+    if (sum(excess.operating) + sum(excess.pricing) + excess.actual == 0)
+        return;
+    printf("excess MJ:");
+    print_row("operating", excess.operating);
+    print_row("pricing", excess.pricing);
+    printf(" effective actual %" PRIu32 "\n", excess.actual);
+}
+
+static void print_book(size_t length)
 {
     printf("lines: %" PRIu32 "; dollars in schedules 1 to 5\n", word(book));
-    for (uint32_t k = 0; k < word(book); k++)
+    for (uint32_t k = 0; k < word(book); k++) {
         print_line(book + MEWIKOFU_ENTRY_AT(k));
+        print_excess(length, k);
+    }
     printf("day\ntotals  ");
     for (int s = 0; s < MEWIKOFU_SCHEDULES; s++)
         print_money(book + MEWIKOFU_TOTAL_AT(s));
@@ -74,7 +105,7 @@ int main(int count, char **arguments)
     }
     uint32_t number = mewikofu_settle(day, length, book, sizeof book);
     if (number == MEWIKOFU_ACCEPTED)
-        print_book();
+        print_book(length);
     else
         printf("refused %" PRIu32 ": %s\n", number, mewikofu_words(number));
     /* A full disk shows when the last bytes are written. */

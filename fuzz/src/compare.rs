@@ -1,9 +1,12 @@
 //! One input through the proved archive and the reference, every answer and every lent byte compared.
 
-use mewikofu::raw;
+use crate::interface;
+use mewikofu::raw::{self, Cut, View};
+use mewikofu::Excess;
 use reference::layout::{book_length, Line, LINE_BYTES, MOST_LINES, SCHEDULES};
 use reference::line_part::line_part;
 use reference::matching::pair;
+use reference::quantities::{operating_totals, pricing_totals};
 use std::ops::Range;
 
 /// Bytes behind the lent book, which no call may touch.
@@ -21,13 +24,18 @@ pub struct Call {
 }
 
 /// What accepted views and cuts are to meet. Some final payment of a viewed step is a revised one less a share of T; is
-/// negative though its line isn't accredited in the schedules of the matched rises; is negative where the bid is pulled.
-pub const MET: [&str; 5] = [
+/// negative though its line isn't accredited in the schedules of the matched rises; is negative where the bid is
+/// pulled; isn't 0 on the line's last step where the operating total exceeds M.
+pub const MET: [&str; 9] = [
     "views with a share of T",
     "views with a charge for unpaid rises",
     "views with a charge where the bid is pulled",
     "views of a line with a pulled bid",
     "cuts of a line with a pulled bid",
+    "views with a payment beside an excess",
+    "views with an excess in the effective actual",
+    "views of a line with an excess",
+    "cuts of a line with an excess",
 ];
 
 /// The numbers answered, and which of `MET` the answers are.
@@ -62,18 +70,18 @@ impl Compare {
     pub fn all(&mut self, day: &[u8], call: &Call) -> Result<Numbers, String> {
         self.day.clear();
         self.day.extend(day);
-        let (view, figures) = self.view(day, call.line, call.step)?;
-        let (cut, steps) = self.cut(day, call.cut.clone())?;
-        let viewed = Line::new(line_part(day, call.line as u64)).filter(|_| view == 0);
-        let lent = Line::new(&day[call.cut.clone()]).filter(|_| cut == 0);
-        viewed.map_or(Ok(()), |line| check_view(line, &figures))?;
-        lent.map_or(Ok(()), |line| check_cut(line, &steps))?;
+        let view = self.view(day, call.line, call.step)?;
+        let cut = self.cut(day, call.cut.clone())?;
+        let viewed = Line::new(line_part(day, call.line as u64)).filter(|_| view.number == 0);
+        let lent = Line::new(&day[call.cut.clone()]).filter(|_| cut.number == 0);
+        viewed.map_or(Ok(()), |line| check_view(line, &view))?;
+        lent.map_or(Ok(()), |line| check_cut(line, &cut))?;
         let numbers = Numbers {
             settle: self.settle(day, call.room)?,
-            cut,
-            view,
+            cut: cut.number,
+            view: view.number,
             part: self.part(day, call.part)?,
-            met: met(viewed, &figures, lent),
+            met: met(viewed, &view, lent),
         };
         match self.day == day {
             true => Ok(numbers),
@@ -94,71 +102,27 @@ impl Compare {
         Ok(number)
     }
 
-    fn cut(&mut self, day: &[u8], range: Range<usize>) -> Result<(u32, mewikofu::Cut), String> {
-        let mut cut = mewikofu::Cut {
-            count: 0xAAAA_AAAA,
-            ends: [0xAAAA_AAAA; 56],
-            prices: [[0xAAAA_AAAA; 56]; 5],
-            flags: [u64::MAX / 3; 5],
-            missing: [0xAAAA_AAAA; 5],
-        };
-        let number = raw::cut(&self.day[range.clone()], &mut cut);
+    fn cut(&mut self, day: &[u8], range: Range<usize>) -> Result<Cut, String> {
+        let cut = interface::cut(&self.day[range.clone()])?;
         let expected = reference::cut::cut(&day[range]);
-        same("cut's number", &number, &expected.number)?;
-        same("cut's count", &cut.count, &expected.count)?;
-        same("cut's ends", &cut.ends, &expected.ends)?;
-        same("cut's prices", &cut.prices, &expected.prices)?;
-        same("cut's flags", &cut.flags, &expected.flags)?;
-        same("cut's missing", &cut.missing, &expected.missing)?;
-        Ok((number, cut))
+        let expected = Cut {
+            flags: expected.flags,
+            number: expected.number,
+            count: expected.count,
+            missing: expected.missing,
+            ends: expected.ends,
+            prices: expected.prices,
+            reserved: 0,
+        };
+        same("the cut", &cut, &expected)?;
+        Ok(cut)
     }
 
-    fn view(
-        &mut self,
-        day: &[u8],
-        line: usize,
-        step: usize,
-    ) -> Result<(u32, mewikofu::View), String> {
-        let (words, money) = ([0xAAAA_AAAA; 5], [i64::MIN / 3; 5]);
-        let mut view = mewikofu::View {
-            end: 0xAAAA_AAAA,
-            width: 0xAAAA_AAAA,
-            actual: 0xAAAA_AAAA,
-            price: words,
-            flag: words,
-            operating: words,
-            pricing: words,
-            agino: words,
-            msiq: words,
-            constrained: words,
-            matches: [0xAAAA_AAAA; 10],
-            initial: money,
-            revised: money,
-            modified: money,
-            finals: money,
-        };
-        let number = raw::view(&self.day, line, step, &mut view);
+    fn view(&mut self, day: &[u8], line: usize, step: usize) -> Result<View, String> {
+        let view = interface::view(&self.day, line, step)?;
         let expected = reference::view::view(day, line as u64, step as u64);
-        same("view's number", &number, &expected.number)?;
-        let expected = mewikofu::View {
-            end: expected.upper,
-            width: expected.width,
-            actual: expected.actual,
-            price: expected.price,
-            flag: expected.flag,
-            operating: expected.operating,
-            pricing: expected.pricing,
-            agino: expected.agino,
-            msiq: expected.msiq,
-            constrained: expected.constrained_on,
-            matches: expected.matches,
-            initial: expected.initial,
-            revised: expected.revised,
-            modified: expected.modified,
-            finals: expected.finals,
-        };
-        same("view's figures", &view, &expected)?;
-        Ok((number, view))
+        same("the view", &view, &view_of(expected))?;
+        Ok(view)
     }
 
     fn part(&mut self, day: &[u8], k: usize) -> Answer {
@@ -180,8 +144,35 @@ impl Compare {
     }
 }
 
+/// The reference's view as the interface has it.
+fn view_of(view: reference::view::View) -> View {
+    View {
+        initial: view.initial,
+        revised: view.revised,
+        modified: view.modified,
+        finals: view.finals,
+        number: view.number,
+        end: view.upper,
+        width: view.width,
+        actual: view.actual,
+        price: view.price,
+        flag: view.flag,
+        operating: view.operating,
+        pricing: view.pricing,
+        agino: view.agino,
+        msiq: view.msiq,
+        constrained: view.constrained_on,
+        matches: view.matches,
+        excess: Excess {
+            operating: view.excess.operating,
+            pricing: view.excess.pricing,
+            actual: view.excess.actual,
+        },
+    }
+}
+
 /// Which of `MET` hold, of the line viewed and of the line cut where they weren't refused.
-fn met(viewed: Option<Line>, view: &mewikofu::View, cut: Option<Line>) -> [bool; MET.len()] {
+fn met(viewed: Option<Line>, view: &View, cut: Option<Line>) -> [bool; MET.len()] {
     let has_pulled = |line: Option<Line>| line.is_some_and(|line| pulled(line).next().is_some());
     [
         has_share(view),
@@ -189,15 +180,30 @@ fn met(viewed: Option<Line>, view: &mewikofu::View, cut: Option<Line>) -> [bool;
         viewed.is_some_and(|line| pulled(line).any(|s| view.finals[s] < 0)),
         has_pulled(viewed),
         has_pulled(cut),
+        viewed.is_some_and(|line| has_payment_beside_excess(line, view)),
+        view.excess.actual > 0,
+        viewed.is_some_and(has_excess),
+        cut.is_some_and(has_excess),
     ]
 }
 
-fn has_share(view: &mewikofu::View) -> bool {
+fn has_excess(line: Line) -> bool {
+    let totals = [pricing_totals(line), operating_totals(line)];
+    let most = u64::from(line.greatest_break());
+    totals.as_flattened().iter().any(|&total| total > most)
+}
+
+fn has_payment_beside_excess(line: Line, view: &View) -> bool {
+    let in_schedule = |s: usize| view.excess.operating[s] > 0 && view.finals[s] != 0;
+    view.end == line.greatest_break() && (0..SCHEDULES).any(in_schedule)
+}
+
+fn has_share(view: &View) -> bool {
     let own = |s| [view.initial, view.revised, view.modified].map(|kind| kind[s]);
     (0..5).any(|s| !own(s).contains(&view.finals[s]))
 }
 
-fn has_charge_for_unpaid(line: Line, view: &mewikofu::View) -> bool {
+fn has_charge_for_unpaid(line: Line, view: &View) -> bool {
     let unpaid = |r, s| view.matches[pair(r, s)] == 0 || !line.accredited(r);
     (1..5).any(|s| view.finals[s] < 0 && (0..s).all(|r| unpaid(r, s)))
 }
@@ -208,12 +214,12 @@ fn pulled(line: Line<'_>) -> impl Iterator<Item = usize> + '_ {
 }
 
 /// Where the bid is pulled the flag is 1.
-fn check_view(line: Line, view: &mewikofu::View) -> Result<(), String> {
+fn check_view(line: Line, view: &View) -> Result<(), String> {
     pulled(line).try_for_each(|s| same("a pulled bid's flag", &view.flag[s], &1))
 }
 
 /// Where the bid is pulled every step has flag 1 and the same price.
-fn check_cut(line: Line, cut: &mewikofu::Cut) -> Result<(), String> {
+fn check_cut(line: Line, cut: &Cut) -> Result<(), String> {
     let count = cut.count as usize;
     pulled(line).try_for_each(|s| {
         let prices = &cut.prices[s][..count];

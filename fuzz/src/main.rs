@@ -1,16 +1,14 @@
 //! Compares the proved archive with the reference implementation on mutated days. Seed and iteration give the same input again.
 
 mod compare;
+mod interface;
 mod mutate;
 mod random;
 
 use compare::{Call, Compare, Numbers, MET, MOST_ROOM};
 use mewikofu::Refusal;
 use random::Random;
-use reference::generate::{
-    damaged_day, pulled_day, pulled_fault_day, set_day, set_fault_day, small_day, small_pulled_day,
-    small_set_day, valid_day,
-};
+use reference::generate::*;
 use reference::layout::*;
 use std::panic::{catch_unwind, AssertUnwindSafe};
 use std::process::ExitCode;
@@ -184,16 +182,19 @@ fn draw_days(seed: u64, round: u64) -> Vec<Vec<u8>> {
 
 fn draw_day(random: &mut Random) -> Vec<u8> {
     let seed = random.next();
-    let mut day = match random.below(36) {
+    let mut day = match random.below(48) {
         0 => damaged_day(seed),
         1 => set_fault_day(seed),
         2 => pulled_fault_day(seed),
-        3..7 => valid_day(seed),
-        7..11 => set_day(seed),
-        11..15 => pulled_day(seed),
-        15..22 => small_day(seed),
-        22..29 => small_set_day(seed),
-        _ => small_pulled_day(seed),
+        3 => excess_fault_day(seed),
+        4..8 => valid_day(seed),
+        8..12 => set_day(seed),
+        12..16 => pulled_day(seed),
+        16..20 => excess_day(seed),
+        20..27 => small_day(seed),
+        27..34 => small_set_day(seed),
+        34..41 => small_pulled_day(seed),
+        _ => small_excess_day(seed),
     };
     let wanted = 1 + random.below(4);
     if mutate::lines(&day) > wanted {

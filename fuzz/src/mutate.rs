@@ -254,12 +254,14 @@ fn change_accreditation(line: &mut [u8], random: &mut Random) {
     put_word(line, ACCREDITATION, random.pick(&[0, 1, turned, any]));
 }
 
-/// A total of at most M, often at a break.
+/// A total of at most M, often at a break, or one above M that is accepted.
 fn quantity(line: &[u8], most: u32, random: &mut Random) -> u32 {
     let at_break = some_break(line, random);
     let some = random.range(0, most);
     let near_break = near(at_break, random).min(most);
-    random.pick(&[near_break, near_break, some, some, most, 0])
+    let excess = random.range(1, EXCESS_LIMIT);
+    let above = most.saturating_add(random.pick(&[1, excess, EXCESS_LIMIT]));
+    random.pick(&[near_break, near_break, some, some, most, above, 0])
 }
 
 /// The other side, with prices in its order and no hedge.
@@ -362,13 +364,13 @@ fn pull_bid(line: &mut [u8], random: &mut Random) {
     }
 }
 
-/// Takes hedge and totals down to M.
+/// Takes a hedge above M, and totals that M is too low for, down to M.
 fn fit_to_most(line: &mut [u8]) {
     let most = greatest_break(line);
     put_word(line, HEDGE, word(line, HEDGE).min(most));
     let totals = |of: fn(Line) -> BySchedule<u64>| Line::new(line).map_or([0; SCHEDULES], of);
     let (pricing, operating) = (totals(pricing_totals), totals(operating_totals));
-    let is_above = |total: u64| total > u64::from(most);
+    let is_above = |total: u64| total > u64::from(most) + u64::from(EXCESS_LIMIT);
     for s in (0..SCHEDULES).filter(|&s| is_above(operating[s])) {
         (0..SCHEDULES).for_each(|i| put_word(line, operating_place(s, i), 0));
         put_word(line, operating_place(s, s), most);
@@ -412,6 +414,8 @@ fn some_value(random: &mut Random) -> u32 {
         QUANTITY_LIMIT - 1,
         QUANTITY_LIMIT,
         QUANTITY_LIMIT + 1,
+        QUANTITY_LIMIT + EXCESS_LIMIT,
+        QUANTITY_LIMIT + EXCESS_LIMIT + 1,
         1 << 31,
         u32::MAX - 1,
         u32::MAX,
@@ -485,7 +489,7 @@ fn cross_limit(line: &mut [u8], random: &mut Random) {
     let n = used(line, bid);
     let most = greatest_break(line);
     let beyond = random.pick(&[0, 1, 1]);
-    match random.below(10) {
+    match random.below(11) {
         0 if random.one_in(2) => put_word(line, SIDE, 1 + beyond),
         0 => {
             let value = random.pick(&[1, 2, 31, 32, 63, 64, 0x8000_0021]);
@@ -505,18 +509,45 @@ fn cross_limit(line: &mut [u8], random: &mut Random) {
             put_word(line, place, beyond);
         }
         6 => put_word(line, HEDGE, most.saturating_add(beyond)),
-        7 => {
-            (0..SCHEDULES).for_each(|i| put_word(line, operating_place(bid, i), 0));
-            let place = operating_place(bid, random.below(SCHEDULES));
-            put_word(line, place, most.saturating_add(beyond));
-        }
-        8 => {
-            let sum = (0..SCHEDULES - 1).fold(0u32, |sum, i| {
-                sum.saturating_add(word(line, pricing_place(bid.min(i), i)))
-            });
-            let value = most.saturating_add(beyond).saturating_sub(sum);
-            put_word(line, pricing_place(bid, SCHEDULES - 1), value);
-        }
+        7..10 => cross_total(line, random),
         _ => put_word(line, actual_place(bid), QUANTITY_LIMIT + beyond),
+    }
+}
+
+/// A total at a limit of refusal 12, by an operating row of one entry or by the last entry of a pricing row, or one
+/// above 32 bits.
+fn cross_total(line: &mut [u8], random: &mut Random) {
+    let s = random.below(SCHEDULES);
+    let excess = random.pick(&[0, 1, EXCESS_LIMIT - 1, EXCESS_LIMIT, EXCESS_LIMIT + 1]);
+    let total = greatest_break(line).saturating_add(excess);
+    match random.below(3) {
+        0 => {
+            (0..SCHEDULES).for_each(|i| put_word(line, operating_place(s, i), 0));
+            put_word(line, operating_place(s, random.below(SCHEDULES)), total);
+        }
+        1 => {
+            let sum = (0..SCHEDULES - 1).fold(0u32, |sum, i| {
+                sum.saturating_add(word(line, pricing_place(s.min(i), i)))
+            });
+            put_word(
+                line,
+                pricing_place(s, SCHEDULES - 1),
+                total.saturating_sub(sum),
+            );
+        }
+        _ => put_wrapping(line, s, random),
+    }
+}
+
+/// Turns the highest bit of two words of one total, which is the same afterwards in 32 bits. The pricing words are in
+/// no other total.
+fn put_wrapping(line: &mut [u8], s: usize, random: &mut Random) {
+    let row = s.min(2);
+    let places = random.pick(&[
+        [operating_place(s, 0), operating_place(s, 4)],
+        [pricing_place(row, 3), pricing_place(row, 4)],
+    ]);
+    for place in places {
+        put_word(line, place, word(line, place) ^ 1 << 31);
     }
 }

@@ -8,6 +8,8 @@ pub type BySchedule<T> = [T; SCHEDULES];
 /// The most MJ of a quantity and the most units of $0.0001 per GJ of a price.
 pub const QUANTITY_LIMIT: u32 = 200_000_000;
 pub const PRICE_LIMIT: u32 = 10_000_000;
+/// The most MJ by which a pricing or operating total may exceed M (02 F-2).
+pub const EXCESS_LIMIT: u32 = 1_000;
 
 pub const MOST_LINES: usize = 64;
 pub const MOST_STEPS: usize = 56;

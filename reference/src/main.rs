@@ -1,10 +1,6 @@
 //! The program: reports of days and lines, and generated ones to report on.
 
-use reference::generate::{
-    accreditation_days, damaged_day, damaged_line, edge_days, line, pulled_day, pulled_fault_day,
-    pulled_fault_line, pulled_k10_days, pulled_line, set_day, set_fault_day, set_fault_line,
-    set_line, small_day, small_pulled_day, small_set_day, valid_day,
-};
+use reference::generate::*;
 use reference::k10::k10;
 use reference::k3_to_k7::k3_to_k7;
 use reference::pack;
@@ -17,11 +13,12 @@ const USAGE: &str = "usage: reference settle|steps < DAY
        reference cut < LINE
        reference day SEED KIND
        reference days SEED COUNT KIND
-       reference lines SEED COUNT [sets|pulled]
-       reference edges|accreditations|pulled
+       reference lines SEED COUNT [sets|pulled|excess]
+       reference edges|accreditations|pulled|excess|excess-lines
        reference expect settle|steps|cut|number < PACK
        reference k10|k3-to-k7
-KIND is valid, small, damaged, mixed, sets, small-sets, set-faults, pulled, small-pulled or pulled-faults.";
+KIND is valid, small, damaged, mixed, sets, small-sets, set-faults, pulled, small-pulled, pulled-faults, excess,
+small-excess or excess-faults.";
 
 fn main() -> ExitCode {
     let arguments: Vec<String> = std::env::args().skip(1).collect();
@@ -48,6 +45,8 @@ fn run(arguments: &[&str], out: &mut impl Write) -> io::Result<bool> {
         ["edges"] => write_pack(edge_days(), out)?,
         ["accreditations"] => write_pack(accreditation_days(), out)?,
         ["pulled"] => write_pack(pulled_k10_days(), out)?,
+        ["excess"] => write_pack(excess_k10_days(), out)?,
+        ["excess-lines"] => write_pack(excess_k10_lines(), out)?,
         ["expect", kind] => return expect(kind, out),
         [kind] => return report(kind, out),
         ["day", seed, kind] => {
@@ -57,18 +56,15 @@ fn run(arguments: &[&str], out: &mut impl Write) -> io::Result<bool> {
             out.write_all(&draw(0, seed))?;
         }
         ["days", seed, count, kind] => return packed(seed, count, generator(kind), out),
-        ["lines", seed, count] => return packed(seed, count, Some(some_line), out),
-        ["lines", seed, count, "sets"] => return packed(seed, count, Some(some_set_line), out),
-        ["lines", seed, count, "pulled"] => {
-            return packed(seed, count, Some(some_pulled_line), out)
-        }
+        ["lines", seed, count] => return packed(seed, count, line_generator(""), out),
+        ["lines", seed, count, kind] => return packed(seed, count, line_generator(kind), out),
         _ => return Ok(false),
     }
     Ok(true)
 }
 
-fn write_pack(days: Vec<Vec<u8>>, out: &mut impl Write) -> io::Result<()> {
-    days.iter().try_for_each(|day| pack::write(out, day))
+fn write_pack(entries: Vec<Vec<u8>>, out: &mut impl Write) -> io::Result<()> {
+    entries.iter().try_for_each(|entry| pack::write(out, entry))
 }
 
 fn number(argument: &str) -> Option<u64> {
@@ -93,31 +89,30 @@ fn generator(kind: &str) -> Option<Draw> {
         "pulled" => Some(|_, seed| pulled_day(seed)),
         "small-pulled" => Some(|_, seed| small_pulled_day(seed)),
         "pulled-faults" => Some(|_, seed| pulled_fault_day(seed)),
+        "excess" => Some(|_, seed| excess_day(seed)),
+        "small-excess" => Some(|_, seed| small_excess_day(seed)),
+        "excess-faults" => Some(|_, seed| excess_fault_day(seed)),
         _ => None,
     }
 }
 
-/// Every third line is damaged.
-fn some_line(k: u64, seed: u64) -> Vec<u8> {
-    match k % 3 {
-        2 => damaged_line(seed),
-        _ => line(seed),
+type DrawLine = fn(u64) -> Vec<u8>;
+
+/// Every third line is damaged, or at a limit that lines of its kind have.
+fn line_generator(kind: &str) -> Option<Draw> {
+    match kind {
+        "" => Some(|k, seed| every_third(k, seed, damaged_line, line)),
+        "sets" => Some(|k, seed| every_third(k, seed, set_fault_line, set_line)),
+        "pulled" => Some(|k, seed| every_third(k, seed, pulled_fault_line, pulled_line)),
+        "excess" => Some(|k, seed| every_third(k, seed, excess_fault_line, excess_line)),
+        _ => None,
     }
 }
 
-/// Every third line has an accreditation at a limit.
-fn some_set_line(k: u64, seed: u64) -> Vec<u8> {
+fn every_third(k: u64, seed: u64, third: DrawLine, other: DrawLine) -> Vec<u8> {
     match k % 3 {
-        2 => set_fault_line(seed),
-        _ => set_line(seed),
-    }
-}
-
-/// Every third line is at a limit that pulled bids have.
-fn some_pulled_line(k: u64, seed: u64) -> Vec<u8> {
-    match k % 3 {
-        2 => pulled_fault_line(seed),
-        _ => pulled_line(seed),
+        2 => third(seed),
+        _ => other(seed),
     }
 }
 

@@ -1,4 +1,5 @@
-//! Totals, their allocation to steps, AGINO, MSIQ and constrained on quantities (01 "Quantities", FD 5 to 7 and 8.1).
+//! Totals, their allocation to steps, AGINO, MSIQ and constrained on quantities (01 "Quantities", 02 F-2, FD 5 to 7 and
+//! 8.1).
 
 use crate::cut::Step;
 use crate::layout::*;
@@ -25,8 +26,9 @@ pub fn effective_actual(line: Line) -> u32 {
     (0..SCHEDULES).map(entry).sum()
 }
 
-/// What is allocated to the steps of a line without fault.
+/// What is allocated to the steps of a line without fault, and M, up to which they reach.
 pub struct LineTotals {
+    most: u32,
     pub pricing: BySchedule<u32>,
     pub operating: BySchedule<u32>,
     pub actual: u32,
@@ -35,6 +37,7 @@ pub struct LineTotals {
 impl LineTotals {
     pub fn new(line: Line) -> LineTotals {
         LineTotals {
+            most: line.greatest_break(),
             pricing: pricing_totals(line).map(|total| total as u32),
             operating: operating_totals(line).map(|total| total as u32),
             actual: effective_actual(line),
@@ -42,17 +45,28 @@ impl LineTotals {
     }
 }
 
-/// What a total puts on a step from `lower` to `upper`.
-pub fn allocate(total: u32, lower: u32, upper: u32) -> u32 {
-    total.min(upper).saturating_sub(lower)
+/// What a step takes of a total, and what no step of the line takes.
+#[derive(Clone, Copy, Debug, Default, PartialEq, Eq)]
+pub struct Allocation {
+    pub on_step: u32,
+    pub excess: u32,
+}
+
+/// Allocates a total to the step from `lower` to `upper` of a line whose last step ends at `most`.
+#[inline(always)]
+pub fn allocate(total: u32, most: u32, lower: u32, upper: u32) -> Allocation {
+    Allocation {
+        on_step: total.min(upper).saturating_sub(lower),
+        excess: total.saturating_sub(most),
+    }
 }
 
 /// The quantities of one step. On withdrawals AGINO is FD's AGWNO and MSIQ is MSWQ.
 #[derive(Clone, Default)]
 pub struct Quantities {
-    pub operating: BySchedule<u32>,
-    pub pricing: BySchedule<u32>,
-    pub actual: u32,
+    pub operating: BySchedule<Allocation>,
+    pub pricing: BySchedule<Allocation>,
+    pub actual: Allocation,
     pub agino: BySchedule<u32>,
     pub msiq: BySchedule<u32>,
     pub constrained_on: BySchedule<u32>,
@@ -62,19 +76,20 @@ impl Quantities {
     /// `rates` are the step's R: one is above 0 where the price is above the market price (withdrawal: below).
     #[inline(always)]
     pub fn new(totals: &LineTotals, step: &Step, rates: &BySchedule<u32>) -> Quantities {
-        let on_step = |total| allocate(total, step.lower, step.upper);
-        let operating = totals.operating.map(on_step);
-        let pricing = totals.pricing.map(on_step);
-        let actual = on_step(totals.actual);
-        let agino = agino(&operating, actual);
-        let msiq = msiq(&pricing, rates);
+        let allocated = |total| allocate(total, totals.most, step.lower, step.upper);
+        let operating = totals.operating.map(allocated);
+        let pricing = totals.pricing.map(allocated);
+        let actual = allocated(totals.actual);
+        let on_step = |totals: &BySchedule<Allocation>| totals.map(|total| total.on_step);
+        let agino = agino(&on_step(&operating), actual.on_step);
+        let msiq = msiq(&on_step(&pricing), rates);
         Quantities {
             operating,
             pricing,
             actual,
             agino,
             msiq,
-            constrained_on: constrained_on(&operating, &agino, &msiq),
+            constrained_on: constrained_on(&on_step(&operating), &agino, &msiq),
         }
     }
 }

@@ -1,5 +1,5 @@
-//! The refusals (01 "Where each refusal is checked", 02 F-7 and F-6). Each call answers the number of the first fault
-//! met, or 0.
+//! The refusals (01 "Where each refusal is checked", 02 F-7, F-6 and F-2). Each call answers the number of the first
+//! fault met, or 0.
 
 use crate::cut::Steps;
 use crate::layout::{self, *};
@@ -100,7 +100,8 @@ fn check_line(line: Line) -> Check {
         Side::Withdrawal => 0,
     };
     require(line.word(HEDGE) <= hedge_limit, 11)?;
-    let within = |totals: BySchedule<u64>| totals.iter().all(|&total| total <= u64::from(most));
+    let limit = u64::from(most + EXCESS_LIMIT);
+    let within = |totals: BySchedule<u64>| totals.iter().all(|&total| total <= limit);
     require(
         within(pricing_totals(line)) && within(operating_totals(line)),
         12,

@@ -1,10 +1,10 @@
-//! What the programs print (01 K10).
+//! What the programs print (01 K10, 02 F-2).
 
 use crate::cut::{cut, Cut};
 use crate::layout::*;
 use crate::refusal::day_number;
 use crate::settle::settle;
-use crate::view::{DayView, View};
+use crate::view::{DayView, Excess, View};
 use std::fmt::{Display, Write};
 
 /// A program reads at most so many bytes of a day or a line.
@@ -86,8 +86,16 @@ fn views_report(views: &DayView) -> String {
             (0..SCHEDULES).for_each(|s| put_schedule(&mut text, step, s));
             put(&mut text, "matches", &step.matches);
         }
+        put_excess(&mut text, &steps[0].excess);
     }
     text
+}
+
+/// The excess of a line, which all of its steps have.
+fn put_excess(text: &mut String, excess: &Excess) {
+    push(text, "excess pricing", &excess.pricing);
+    push(text, " operating", &excess.operating);
+    put(text, " actual", &[excess.actual]);
 }
 
 fn put_schedule(text: &mut String, step: &View, s: usize) {
@@ -115,11 +123,16 @@ fn heading([participant, point, side]: [u32; 3], steps: usize) -> String {
     format!("{participant} {point} {side} {steps}")
 }
 
-/// A heading, values with a space before each, and a line feed.
-fn put<T: Display>(text: &mut String, heading: &str, values: &[T]) {
+/// A heading, and values with a space before each.
+fn push<T: Display>(text: &mut String, heading: &str, values: &[T]) {
     text.push_str(heading);
     for value in values {
         write!(text, " {value}").unwrap();
     }
+}
+
+/// The same and a line feed.
+fn put<T: Display>(text: &mut String, heading: &str, values: &[T]) {
+    push(text, heading, values);
     text.push('\n');
 }

@@ -1,4 +1,4 @@
-//! The step view (01 "Totals and book", last sentences).
+//! The step view (01 "Totals and book", last sentences; 02 F-2).
 
 use crate::cut::{Step, Steps};
 use crate::figures::LineFigures;
@@ -8,7 +8,16 @@ use crate::payments::finals;
 use crate::pools::Pools;
 use crate::refusal::view_number;
 
-/// The figures of one step. `price` is capped. A refused view has its number and zeros.
+/// What no step takes of a line's totals.
+#[derive(Clone, Debug, Default, PartialEq, Eq)]
+pub struct Excess {
+    pub operating: BySchedule<u32>,
+    pub pricing: BySchedule<u32>,
+    pub actual: u32,
+}
+
+/// The figures of one step. `price` is capped. The excess is the line's, so the same on all of its steps. A refused view
+/// has its number and zeros.
 #[derive(Clone, Debug, Default, PartialEq, Eq)]
 pub struct View {
     pub number: u32,
@@ -28,6 +37,7 @@ pub struct View {
     pub revised: BySchedule<i64>,
     pub modified: BySchedule<i64>,
     pub finals: BySchedule<i64>,
+    pub excess: Excess,
 }
 
 /// Line and step count from 0.
@@ -66,26 +76,26 @@ impl<'a> DayView<'a> {
 
     fn step(&self, line: &LineFigures, step: &Step) -> View {
         let figures = line.step(step);
-        let pools = self.pools.side(line.side);
+        let (clawback, pools) = (self.day.market.clawback, self.pools.side(line.side));
         let falls = &figures.matching.falls;
         let payments = figures.payments;
-        let finals = finals(
-            self.day.market.clawback,
-            &step.flags,
-            falls,
-            &payments,
-            pools,
-        );
+        let finals = finals(clawback, &step.flags, falls, &payments, pools);
         let quantities = figures.quantities;
+        let (operating, pricing) = (quantities.operating, quantities.pricing);
+        let excess = Excess {
+            operating: operating.map(|total| total.excess),
+            pricing: pricing.map(|total| total.excess),
+            actual: quantities.actual.excess,
+        };
         View {
             number: 0,
             upper: step.upper,
             width: step.upper - step.lower,
             price: figures.prices,
             flag: step.flags.map(u32::from),
-            operating: quantities.operating,
-            pricing: quantities.pricing,
-            actual: quantities.actual,
+            operating: operating.map(|total| total.on_step),
+            pricing: pricing.map(|total| total.on_step),
+            actual: quantities.actual.on_step,
             agino: quantities.agino,
             msiq: quantities.msiq,
             constrained_on: quantities.constrained_on,
@@ -94,6 +104,7 @@ impl<'a> DayView<'a> {
             revised: payments.revised,
             modified: payments.modified,
             finals,
+            excess,
         }
     }
 }

@@ -23,6 +23,7 @@ if TYPE_CHECKING:
 __all__ = [
     "ACCREDITED",
     "MATCHES",
+    "MOST_EXCESS",
     "MOST_LINES",
     "MOST_STEPS",
     "NOT_ACCREDITED",
@@ -30,6 +31,7 @@ __all__ = [
     "Book",
     "BookLine",
     "Cut",
+    "Excess",
     "Refusal",
     "View",
     "accreditation_in",
@@ -41,12 +43,14 @@ __all__ = [
     "settle_into",
     "view",
 ]
-__version__ = "0.2.0"
+__version__ = "0.3.0"
 
 MOST_LINES = 64
 SCHEDULES = 5
 MOST_STEPS = 56
 MATCHES = 10
+# The most MJ by which a pricing or operating total may be above the greatest break of its line's bids.
+MOST_EXCESS = 1000
 
 # Words of a line's accreditation, which stands at byte 12 of the line: in no schedule and in all. accreditation_in makes those of sets.
 NOT_ACCREDITED = 0
@@ -66,7 +70,7 @@ _REFUSALS: Dict[int, Tuple[str, str]] = {
     9: ("each line", "a bid's price is above 10,000,000 price units, or falls (withdrawal: rises)"),
     10: ("each line", "an unused slot of a bid isn't 0"),
     11: ("each line", "a hedge is above the line's greatest break, or isn't 0 on a withdrawal"),
-    12: ("each line", "a pricing or operating total is above the line's greatest break"),
+    12: ("each line", "a pricing or operating total is more than 1,000 MJ above the line's greatest break"),
     13: ("each line", "an actual is above 200,000,000 MJ"),
     14: ("all lines", "two lines have the same participant, point and side"),
     15: ("book", "the lent book is under 96 + 56 n bytes"),
@@ -115,8 +119,19 @@ class Book:
 
 
 @dataclass(frozen=True)
+class Excess:
+    """What no step takes of a line's operating total, pricing total and effective actual, since it is above the greatest break of the line's bids
+    (document 02, F-2). In MJ, at most MOST_EXCESS. It is never constrained on and never paid. Tuples are by schedule, counted from 0."""
+
+    operating: Tuple[int, ...]
+    pricing: Tuple[int, ...]
+    actual: int
+
+
+@dataclass(frozen=True)
 class View:
-    """The figures of one step; tuples are by schedule, counted from 0, but matches, of which matched(r, s) is one. Payments are in $0.0000001."""
+    """The figures of one step; tuples are by schedule, counted from 0, but matches, of which matched(r, s) is one. Payments are in $0.0000001.
+    The excess is the line's, so the same for each of its steps."""
 
     end: int
     width: int
@@ -133,6 +148,7 @@ class View:
     revised: Tuple[int, ...]
     modified: Tuple[int, ...]
     finals: Tuple[int, ...]
+    excess: Excess
 
     def matched(self, r: int, s: int) -> int:
         """How much of the fall in schedule s is matched with the rise in r: document 01's m(r + 1, s + 1). Schedules count from 0, r below s."""
@@ -181,22 +197,25 @@ def settle_into(day: ReadableBuffer, book: WriteableBuffer) -> None:
 def view(day: ReadableBuffer, line: SupportsIndex, step: SupportsIndex) -> View:
     """Every figure of a step of a line, both counted from 0."""
     data = _bytes(day)
-    places = [kind() for kind in _VIEW]
-    _accept(_library.mewikofu_view(data, len(data), _size(line), _size(step), *places))
-    return View(*map(_value, places))
+    answer = _library.mewikofu_view(data, len(data), _size(line), _size(step))
+    _accept(answer.number)
+    figures = _values(answer)
+    del figures["number"]
+    figures["excess"] = Excess(**_values(answer.excess))
+    return View(**figures)
 
 
 def cut(line: ReadableBuffer) -> Cut:
     """Cuts the 660 bytes of one line into its steps."""
     data = _bytes(line)
-    count, ends, prices, flags, missing = places = [kind() for kind in _CUT]
-    _accept(_library.mewikofu_cut(data, len(data), *places))
-    steps = range(count.value)
+    answer = _library.mewikofu_cut(data, len(data))
+    _accept(answer.number)
+    count = answer.count
     return Cut(
-        ends=tuple(ends[k] for k in steps),
-        prices=tuple(tuple(prices[MOST_STEPS * s + k] for k in steps) for s in range(SCHEDULES)),
-        flags=tuple(tuple(bool(flags[s] >> k & 1) for k in steps) for s in range(SCHEDULES)),
-        missing=tuple(missing),
+        ends=tuple(answer.ends[:count]),
+        prices=tuple(tuple(row[:count]) for row in answer.prices),
+        flags=tuple(tuple(bool(word >> k & 1) for k in range(count)) for word in answer.flags),
+        missing=tuple(answer.missing),
     )
 
 
@@ -260,8 +279,10 @@ def _schedule(s: SupportsIndex) -> int:
     return place
 
 
-def _value(place: Any) -> Any:
-    return place.value if isinstance(place, ctypes.c_uint32) else tuple(place)
+def _values(answer: ctypes.Structure) -> Dict[str, Any]:
+    """The fields of an answer by their names, arrays as tuples."""
+    values = ((field[0], getattr(answer, field[0])) for field in answer._fields_)
+    return {name: tuple(value) if isinstance(value, ctypes.Array) else value for name, value in values}
 
 
 def _accept(number: int) -> None:
@@ -274,15 +295,50 @@ _NO_SCHEDULE = 32
 _ALL_SCHEDULES = 63
 _WORDS = ctypes.c_uint32 * SCHEDULES
 _MONEY = ctypes.c_int64 * SCHEDULES
-# The lent places in the header's order.
-_VIEW: List[Any] = [ctypes.c_uint32] * 3 + [_WORDS] * 7 + [ctypes.c_uint32 * MATCHES] + [_MONEY] * 4
-_CUT: List[Any] = [
-    ctypes.c_uint32,
-    ctypes.c_uint32 * MOST_STEPS,
-    ctypes.c_uint32 * (SCHEDULES * MOST_STEPS),
-    ctypes.c_uint64 * SCHEDULES,
-    _WORDS,
-]
+
+
+class _Excess(ctypes.Structure):
+    """The header's struct mewikofu_excess."""
+
+    _fields_ = [("operating", _WORDS), ("pricing", _WORDS), ("actual", ctypes.c_uint32)]
+
+
+class _View(ctypes.Structure):
+    """The header's struct mewikofu_view."""
+
+    _fields_ = [
+        ("initial", _MONEY),
+        ("revised", _MONEY),
+        ("modified", _MONEY),
+        ("finals", _MONEY),
+        ("number", ctypes.c_uint32),
+        ("end", ctypes.c_uint32),
+        ("width", ctypes.c_uint32),
+        ("actual", ctypes.c_uint32),
+        ("price", _WORDS),
+        ("flag", _WORDS),
+        ("operating", _WORDS),
+        ("pricing", _WORDS),
+        ("agino", _WORDS),
+        ("msiq", _WORDS),
+        ("constrained", _WORDS),
+        ("matches", ctypes.c_uint32 * MATCHES),
+        ("excess", _Excess),
+    ]
+
+
+class _Cut(ctypes.Structure):
+    """The header's struct mewikofu_cut."""
+
+    _fields_ = [
+        ("flags", ctypes.c_uint64 * SCHEDULES),
+        ("number", ctypes.c_uint32),
+        ("count", ctypes.c_uint32),
+        ("missing", _WORDS),
+        ("ends", ctypes.c_uint32 * MOST_STEPS),
+        ("prices", ctypes.c_uint32 * MOST_STEPS * SCHEDULES),
+        ("reserved", ctypes.c_uint32),
+    ]
 
 
 def _open() -> ctypes.CDLL:
@@ -303,18 +359,22 @@ def _open() -> ctypes.CDLL:
 
 def _load() -> ctypes.CDLL:
     library = _open()
-    data, size = ctypes.c_char_p, ctypes.c_size_t
+    data, size, number = ctypes.c_char_p, ctypes.c_size_t, ctypes.c_uint32
     lent = ctypes.POINTER
-    arguments: Dict[str, List[Any]] = {
-        "mewikofu_settle": [data, size, ctypes.c_void_p, size],
-        "mewikofu_view": [data, size, size, size, *map(lent, _VIEW)],
-        "mewikofu_line_part": [data, size, size, lent(size), lent(size)],
-        "mewikofu_cut": [data, size, *map(lent, _CUT)],
+    functions: Dict[str, Tuple[Any, List[Any]]] = {
+        "mewikofu_version": (data, []),
+        "mewikofu_settle": (number, [data, size, ctypes.c_void_p, size]),
+        "mewikofu_view": (_View, [data, size, size, size]),
+        "mewikofu_line_part": (number, [data, size, size, lent(size), lent(size)]),
+        "mewikofu_cut": (_Cut, [data, size]),
     }
-    for name, types in arguments.items():
+    for name, (answer, arguments) in functions.items():
         function = getattr(library, name)
-        function.argtypes = types
-        function.restype = ctypes.c_uint32
+        function.restype, function.argtypes = answer, arguments
+    # Another version may take or answer something else.
+    version = library.mewikofu_version().decode()
+    if version != __version__:
+        raise ImportError(f"the shared object {library._name} is of version {version}, and the package of {__version__}")
     return library
 
 

@@ -3,6 +3,7 @@
 usage, from bindings/python, after ./build: python3 -m unittest discover -s tests
 """
 
+import ctypes
 import doctest
 import itertools
 import os
@@ -57,6 +58,7 @@ class K10Test(unittest.TestCase):
         expected = mewikofu.View(
             end=1000, width=1000, actual=1000, price=(20000,) * 5, flag=none, operating=full, pricing=full, agino=none,
             msiq=full, constrained=none, matches=(0,) * 10, initial=none, revised=none, modified=none, finals=none,
+            excess=mewikofu.Excess(operating=none, pricing=none, actual=0),
         )
         self.assertEqual(mewikofu.view(K10, 0, 0), expected)
 
@@ -69,7 +71,7 @@ class K10Test(unittest.TestCase):
         expected = mewikofu.View(
             end=3000, width=2000, actual=500, price=(50000,) * 5, flag=none, operating=over, pricing=none, agino=none,
             msiq=none, constrained=over, matches=(0, 0, 0, 0, 500, 0, 0, 0, 0, 0), initial=paid, revised=paid,
-            modified=paid, finals=paid,
+            modified=paid, finals=paid, excess=mewikofu.Excess(operating=none, pricing=none, actual=0),
         )
         self.assertEqual(step, expected)
         self.assertEqual([step.matched(r, 3) for r in (0, 1, 2)], [0, 500, 0])
@@ -175,6 +177,80 @@ class PulledTest(unittest.TestCase):
             day = self.pulled([3])
             day[64 + 20 + 92 * 3 + 4 * slot] = 1
             self.assertEqual(number(mewikofu.settle, day), 10)
+
+
+class ExcessTest(unittest.TestCase):
+    """K10's greatest break is 3000. Word places in the line: operating row s at 135 + 5 s, pricing row s in interval 5 at `PRICING[s]`, actuals at 160."""
+
+    PRICING = 124, 128, 131, 133, 134
+
+    def with_words(self, **words):
+        """K10's day with words of its line, named w135 and so on."""
+        day = bytearray(K10)
+        for place, word in words.items():
+            at = 64 + 4 * int(place[1:])
+            day[at : at + 4] = word.to_bytes(4, "little")
+        return day
+
+    def excess(self, day):
+        """The line's, which both steps have."""
+        first, second = (mewikofu.view(day, 0, step).excess for step in (0, 1))
+        self.assertEqual(first, second)
+        return first
+
+    def operated(self, s, total):
+        return self.with_words(**{f"w{135 + 5 * s + i}": 0 if i else total for i in range(5)})
+
+    def priced(self, s, total):
+        # Pricing row 1 begins with 1000, which all totals have; no other total has the entry for interval 5.
+        return self.with_words(**{f"w{self.PRICING[s]}": total - 1000})
+
+    def refused(self, day):
+        numbers = number(mewikofu.settle, day), number(mewikofu.view, day, 0, 0), number(mewikofu.cut, day[64:])
+        self.assertEqual(numbers, (12, 12, 12))
+
+    def test_one_total(self):
+        none = (0,) * 5
+        for s in range(5):
+            for over in (0, 1, 999, mewikofu.MOST_EXCESS):
+                row = tuple(over if k == s else 0 for k in range(5))
+                day = self.operated(s, 3000 + over)
+                self.assertEqual(self.excess(day), mewikofu.Excess(row, none, 0))
+                self.assertEqual(mewikofu.settle(day), mewikofu.settle(self.operated(s, 3000)))
+                day = self.priced(s, 3000 + over)
+                self.assertEqual(self.excess(day), mewikofu.Excess(none, row, 0))
+                self.assertEqual(mewikofu.settle(day), mewikofu.settle(self.priced(s, 3000)))
+            for over in (mewikofu.MOST_EXCESS + 1, 1000000, 2**32 - 3001):
+                self.refused(self.operated(s, 3000 + over))
+                self.refused(self.priced(s, 3000 + over))
+
+    def test_not_paid(self):
+        # Operating total 3500 in schedule 2: O(2) is 2000 on the second step, a rise of 2000 at a rate of 20000. C falls by 1000 and by 500.
+        day = self.with_words(w141=2500)
+        step = mewikofu.view(day, 0, 1)
+        self.assertEqual(step.constrained, (0, 2000, 1000, 500, 500))
+        self.assertEqual(step.excess.operating, (0, 500, 0, 0, 0))
+        self.assertEqual(mewikofu.settle(day).totals, (0, 40000000, -20000000, -10000000, 0))
+
+    def test_effective_actual(self):
+        # The lesser of operating row 5 and the actual, interval by interval: 2000 + 1700.
+        day = self.with_words(w155=2000, w156=1900, w160=200000000, w161=1700)
+        self.assertEqual(self.excess(day), mewikofu.Excess((0, 0, 0, 0, 900), (0,) * 5, 700))
+        self.assertEqual([mewikofu.view(day, 0, step).actual for step in (0, 1)], [1000, 2000])
+
+    def test_worked_days(self):
+        # The figures of an implementation of its own: a row for each line, after its steps.
+        folder, seen = ROOT / "reference/tests/worked", 0
+        for name in ("F-2-1", "F-2-2", "F-2-3"):
+            day = (folder / f"{name}.day").read_bytes()
+            self.assertEqual(report(mewikofu.settle(day)), (folder / f"{name}.report").read_text())
+            rows = re.findall(r"^excess pricing (.*) operating (.*) actual (.*)$", (folder / f"{name}.steps").read_text(), re.MULTILINE)
+            self.assertEqual(len(rows), (len(day) - 64) // 660)
+            for k, row in enumerate(rows):
+                pricing, operating, (actual,) = (tuple(map(int, part.split())) for part in row)
+                self.assertEqual(mewikofu.view(day, k, 0).excess, mewikofu.Excess(operating, pricing, actual))
+                seen += sum(pricing + operating) + actual > 0
+        self.assertEqual(seen, 6)
 
 
 class LentTest(unittest.TestCase):
@@ -290,6 +366,17 @@ class ImportTest(unittest.TestCase):
             self.assertIn("ImportError: MEWIKOFU_LIBRARY names a shared object that can't be loaded", said)
             self.assertEqual(self.imported(folder, str(HERE.parent / "mewikofu/libmewikofu.so")), (0, ""))
 
+    def test_another_version(self):
+        with tempfile.TemporaryDirectory() as folder:
+            os.mkdir(f"{folder}/mewikofu")
+            module = (HERE.parent / "mewikofu/__init__.py").read_text()
+            versions = f'__version__ = "{mewikofu.__version__}"', '__version__ = "9.9.9"'
+            Path(f"{folder}/mewikofu/__init__.py").write_text(module.replace(*versions))
+            library = str(HERE.parent / "mewikofu/libmewikofu.so")
+            status, said = self.imported(folder, library)
+            self.assertEqual(status, 1)
+            self.assertEqual(said, f"ImportError: the shared object {library} is of version {mewikofu.__version__}, and the package of 9.9.9")
+
 
 class VersionTest(unittest.TestCase):
     def test_version(self):
@@ -310,9 +397,24 @@ class PageTest(unittest.TestCase):
         self.assertEqual(tried.failed, 0)
 
 
+class HeaderTest(unittest.TestCase):
+    HEADER = (ROOT / "include/mewikofu.h").read_text()
+
+    def fields(self, name):
+        """Names of the header's struct, in its order."""
+        body = re.search(rf"^struct {name} {{\n(.*?)^}};", self.HEADER, re.MULTILINE | re.DOTALL)[1]
+        return re.findall(r"^    \w[\w ]* (\w+)(?:\[\w+\])*;", body, re.MULTILINE)
+
+    def test_structs(self):
+        for structure, name, size in ((mewikofu._Excess, "excess", 44), (mewikofu._View, "view", 400), (mewikofu._Cut, "cut", 1416)):
+            self.assertEqual([field[0] for field in structure._fields_], self.fields(f"mewikofu_{name}"))
+            self.assertEqual(ctypes.sizeof(structure), size)
+        self.assertIn(f"\n#define MEWIKOFU_MOST_EXCESS {mewikofu.MOST_EXCESS}\n", self.HEADER)
+
+
 class ReportTest(unittest.TestCase):
     def test_example_days(self):
-        for name in ("k10", "both-sides", "withdrawals", "rules", "accreditation", "pulled", "winter"):
+        for name in ("k10", "both-sides", "withdrawals", "rules", "accreditation", "pulled", "excess", "winter"):
             day = (ROOT / f"examples/{name}.day").read_bytes()
             self.assertEqual(report(mewikofu.settle(day)), (ROOT / f"examples/{name}.report").read_text())
 

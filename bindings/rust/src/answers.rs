@@ -1,6 +1,16 @@
 //! The answers of the step view and the cutter (document 01, "Totals and book", "Steps and prices").
 
-use crate::{MATCHES, MOST_STEPS, SCHEDULES};
+use crate::{raw, MATCHES, MOST_STEPS, SCHEDULES};
+
+/// What no step takes of a line's operating total, pricing total and effective actual, since it is above the greatest break of the line's bids
+/// (document 02, F-2). In MJ, at most `MOST_EXCESS`. It is never constrained on and never paid. Arrays are by schedule.
+#[repr(C)]
+#[derive(Clone, Copy, Debug, Default, PartialEq, Eq)]
+pub struct Excess {
+    pub operating: [u32; SCHEDULES],
+    pub pricing: [u32; SCHEDULES],
+    pub actual: u32,
+}
 
 /// The figures of one step; arrays are by schedule.
 #[derive(Clone, Debug, Default, PartialEq, Eq)]
@@ -29,6 +39,51 @@ pub struct View {
     pub revised: [i64; SCHEDULES],
     pub modified: [i64; SCHEDULES],
     pub finals: [i64; SCHEDULES],
+    /// Of the line, so the same for each of its steps.
+    pub excess: Excess,
+}
+
+impl From<raw::View> for View {
+    /// Without the number.
+    fn from(answer: raw::View) -> View {
+        let raw::View {
+            initial,
+            revised,
+            modified,
+            finals,
+            number: _,
+            end,
+            width,
+            actual,
+            price,
+            flag,
+            operating,
+            pricing,
+            agino,
+            msiq,
+            constrained,
+            matches,
+            excess,
+        } = answer;
+        View {
+            end,
+            width,
+            actual,
+            price,
+            flag,
+            operating,
+            pricing,
+            agino,
+            msiq,
+            constrained,
+            matches,
+            initial,
+            revised,
+            modified,
+            finals,
+            excess,
+        }
+    }
 }
 
 impl View {
@@ -59,6 +114,28 @@ pub struct Cut {
     pub flags: [u64; SCHEDULES],
     /// By schedule: how many flags are 1.
     pub missing: [u32; SCHEDULES],
+}
+
+impl From<raw::Cut> for Cut {
+    /// Without the number and the reserved word.
+    fn from(answer: raw::Cut) -> Cut {
+        let raw::Cut {
+            flags,
+            number: _,
+            count,
+            missing,
+            ends,
+            prices,
+            reserved: _,
+        } = answer;
+        Cut {
+            count,
+            ends,
+            prices,
+            flags,
+            missing,
+        }
+    }
 }
 
 impl Default for Cut {

@@ -11,7 +11,7 @@ pub mod raw;
 mod refusal;
 
 pub use accreditation::Accreditation;
-pub use answers::{match_place, Cut, View};
+pub use answers::{match_place, Cut, Excess, View};
 pub use book::{book_bytes, Book, BookLine, Side};
 pub use refusal::Refusal;
 
@@ -23,6 +23,8 @@ pub const SCHEDULES: usize = 5;
 pub const MOST_STEPS: usize = 56;
 pub const MATCHES: usize = 10;
 pub const LINE_BYTES: usize = 660;
+/// The most MJ by which a pricing or operating total may be above the greatest break of its line's bids.
+pub const MOST_EXCESS: u32 = 1_000;
 
 /// Settles a day into a book of its own.
 pub fn settle(day: &[u8]) -> Result<Book, Refusal> {
@@ -38,16 +40,16 @@ pub fn settle_into(day: &[u8], book: &mut [u8]) -> Result<(), Refusal> {
 
 /// Every figure of a step of a line, both counted from 0.
 pub fn view(day: &[u8], line: usize, step: usize) -> Result<View, Refusal> {
-    let mut view = View::default();
-    refusal::accepted(raw::view(day, line, step, &mut view))?;
-    Ok(view)
+    let answer = raw::view(day, line, step);
+    refusal::accepted(answer.number)?;
+    Ok(answer.into())
 }
 
 /// Cuts the 660 bytes of one line into its steps.
 pub fn cut(line: &[u8]) -> Result<Cut, Refusal> {
-    let mut cut = Cut::default();
-    refusal::accepted(raw::cut(line, &mut cut))?;
-    Ok(cut)
+    let answer = raw::cut(line);
+    refusal::accepted(answer.number)?;
+    Ok(answer.into())
 }
 
 /// The bytes of line k (from 0) within the day's own. Only the day's header is checked.

@@ -45,7 +45,7 @@ refusals! {
     Prices = 9, "each line", "a bid's price is above 10,000,000 price units, or falls (withdrawal: rises)";
     UnusedSlot = 10, "each line", "an unused slot of a bid isn't 0";
     Hedge = 11, "each line", "a hedge is above the line's greatest break, or isn't 0 on a withdrawal";
-    Totals = 12, "each line", "a pricing or operating total is above the line's greatest break";
+    Totals = 12, "each line", "a pricing or operating total is more than 1,000 MJ above the line's greatest break";
     Actuals = 13, "each line", "an actual is above 200,000,000 MJ";
     EqualKeys = 14, "all lines", "two lines have the same participant, point and side";
     BookShort = 15, "book", "the lent book is under 96 + 56 n bytes";

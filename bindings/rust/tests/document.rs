@@ -1,6 +1,10 @@
 //! The binding beside document 01, docs/REFUSALS.md and include/mewikofu.h.
 
-use mewikofu::{cut, line_part, match_place, settle, view, Accreditation, Refusal, Side};
+use mewikofu::{
+    cut, line_part, match_place, raw, settle, view, Accreditation, Excess, Refusal, Side,
+    MOST_EXCESS,
+};
+use std::mem::offset_of;
 
 const K10: &[u8] = include_bytes!("../../../examples/k10.day");
 const REFUSED: &[u8] = include_bytes!("../../../examples/refused.day");
@@ -154,6 +158,192 @@ fn short_bid() {
     }
     let steps = cut(line_part(&day, 0).unwrap()).unwrap();
     assert_eq!((steps.flags[3], steps.is_pulled(3)), (0b10, false));
+}
+
+/// Places of a line's words: row and interval count from 0; pricing row r has the intervals from r on.
+fn pricing(row: usize, interval: usize) -> usize {
+    120 + [0, 5, 9, 12, 14][row] + interval - row
+}
+
+fn operating(row: usize, interval: usize) -> usize {
+    135 + 5 * row + interval
+}
+
+fn actual(interval: usize) -> usize {
+    160 + interval
+}
+
+/// K10's day with these words of its line put.
+fn k10_with(words: &[(usize, u32)]) -> Vec<u8> {
+    let mut day = K10.to_vec();
+    for (place, word) in words {
+        day[64 + 4 * place..][..4].copy_from_slice(&word.to_le_bytes());
+    }
+    day
+}
+
+/// The excess in the views of both steps, which is the line's.
+fn excess(day: &[u8]) -> Excess {
+    let [first, second] = [0, 1].map(|step| view(day, 0, step).unwrap().excess);
+    assert_eq!(first, second);
+    first
+}
+
+/// The day is refused with 12 by settling, view and cutter, whose other fields are 0.
+fn assert_totals_refused(day: &[u8]) {
+    assert_eq!(settle(day), Err(Refusal::Totals));
+    assert_eq!(view(day, 0, 0), Err(Refusal::Totals));
+    let refused = raw::View {
+        number: 12,
+        ..raw::View::default()
+    };
+    assert_eq!(raw::view(day, 0, 0), refused);
+    let refused = raw::Cut {
+        flags: [0; 5],
+        number: 12,
+        count: 0,
+        missing: [0; 5],
+        ends: [0; 56],
+        prices: [[0; 56]; 5],
+        reserved: 0,
+    };
+    assert_eq!(raw::cut(&day[64..]), refused);
+}
+
+/// K10's M is 3,000. The excess of one schedule's total alone: operating row s, and pricing row s in interval 5, which for s below 5 no other total has.
+/// Whatever it is, the book is that of a total of 3,000.
+#[test]
+fn excess_of_one_total() {
+    for s in 0..5 {
+        let whole = |total| {
+            let others = (1..5).map(|i| (operating(s, i), 0));
+            k10_with(&others.chain([(operating(s, 0), total)]).collect::<Vec<_>>())
+        };
+        // Pricing row 1 begins with 1,000, which all totals have.
+        let priced = |total: u32| k10_with(&[(pricing(s, 4), total - 1_000)]);
+        for over in [0, 1, 999, MOST_EXCESS] {
+            let (mut of_operating, mut of_pricing) = (Excess::default(), Excess::default());
+            (of_operating.operating[s], of_pricing.pricing[s]) = (over, over);
+            let day = whole(3_000 + over);
+            assert_eq!(excess(&day), of_operating);
+            assert_eq!(settle(&day), settle(&whole(3_000)));
+            let day = priced(3_000 + over);
+            assert_eq!(excess(&day), of_pricing);
+            assert_eq!(settle(&day), settle(&priced(3_000)));
+        }
+        for over in [MOST_EXCESS + 1, 1_000_000, u32::MAX - 3_000] {
+            assert_totals_refused(&whole(3_000 + over));
+            assert_totals_refused(&priced(3_000 + over));
+        }
+        // Sums that 32 bits would lose.
+        assert_totals_refused(&k10_with(&[
+            (operating(s, 0), u32::MAX),
+            (operating(s, 1), 1),
+        ]));
+        assert_totals_refused(&k10_with(&[(pricing(s, 4), u32::MAX - 999)]));
+    }
+}
+
+/// Operating row 2 is 3,500, by hand: on the step from 1,000 to 3,000 O(2) is 2,000, of which the rise of C is 2,000 at a rate of 20,000. It falls by
+/// 1,000 in schedule 3 and by 500 in schedule 4.
+#[test]
+fn excess_is_not_paid() {
+    let day = k10_with(&[(operating(1, 1), 2_500)]);
+    let step = view(&day, 0, 1).unwrap();
+    assert_eq!(step.operating, [0, 2_000, 1_000, 500, 500]);
+    assert_eq!(step.constrained, step.operating);
+    assert_eq!((step.matched(1, 2), step.matched(1, 3)), (1_000, 500));
+    assert_eq!(step.excess.operating, [0, 500, 0, 0, 0]);
+    let book = settle(&day).unwrap();
+    assert_eq!(book.totals(), [0, 40_000_000, -20_000_000, -10_000_000, 0]);
+    assert_eq!(book.adjusted(), [0, 10_000_000, 0, 0, 0]);
+}
+
+/// The effective actual is the sum of the lesser of operating row 5 and the actual: 2,000 + 1,700 here, 700 above M.
+#[test]
+fn excess_of_the_effective_actual() {
+    let day = k10_with(&[
+        (operating(4, 0), 2_000),
+        (operating(4, 1), 1_900),
+        (actual(0), 200_000_000),
+        (actual(1), 1_700),
+    ]);
+    let due = Excess {
+        operating: [0, 0, 0, 0, 900],
+        pricing: [0; 5],
+        actual: 700,
+    };
+    assert_eq!(excess(&day), due);
+    let steps = [0, 1].map(|step| view(&day, 0, step).unwrap());
+    assert_eq!(steps.map(|step| step.actual), [1_000, 2_000]);
+}
+
+/// With the greatest break at the quantity limit a single entry may be 1,000 above it.
+#[test]
+fn entries_above_the_quantity_limit() {
+    let most = 200_000_000;
+    let breaks: Vec<(usize, u32)> = (0..5).map(|s| (5 + 23 * s + 2, most)).collect();
+    let with = |words: &[(usize, u32)]| k10_with(&[&breaks, words].concat());
+    // Pricing row 1's first entry, 1,000, is in every total.
+    let [operated, priced] = [(operating(2, 0), most), (pricing(1, 4), most - 1_000)];
+    let at = |(place, word): (usize, u32), over| (place, word + over);
+    let day = with(&[at(operated, 1_000), (operating(2, 1), 0), at(priced, 1_000)]);
+    let due = Excess {
+        operating: [0, 0, 1_000, 0, 0],
+        pricing: [0, 1_000, 0, 0, 0],
+        actual: 0,
+    };
+    assert_eq!(excess(&day), due);
+    assert_totals_refused(&with(&[at(operated, 1_001), (operating(2, 1), 0)]));
+    assert_totals_refused(&with(&[at(priced, 1_001)]));
+}
+
+/// Name and place of each field of a struct of the header, by the sizes that it declares.
+fn declared_fields(name: &str) -> Vec<(&'static str, usize)> {
+    let start = format!("\nstruct {name} {{\n");
+    let body = HEADER.split_once(&start).unwrap().1;
+    let body = body.split_once("\n};").unwrap().0;
+    let mut place = 0;
+    let field = |line: &'static str| {
+        let (declared, _) = line.trim().split_once(';').unwrap();
+        let (kind, declared) = declared.rsplit_once(' ').unwrap();
+        let mut parts = declared.split('[');
+        let own = (parts.next().unwrap(), place);
+        let count: usize = parts
+            .map(|part| match part.trim_end_matches(']') {
+                "MEWIKOFU_SCHEDULES" => 5,
+                "MEWIKOFU_MOST_STEPS" => 56,
+                "MEWIKOFU_MATCHES" => 10,
+                other => panic!("{other}"),
+            })
+            .product();
+        place += count
+            * match kind {
+                "uint32_t" => 4,
+                "int64_t" | "uint64_t" => 8,
+                "struct mewikofu_excess" => 4 * 11,
+                other => panic!("{other}"),
+            };
+        own
+    };
+    body.lines().map(field).collect()
+}
+
+/// The answers have the header's fields, each at its place.
+#[test]
+fn structs_are_the_headers() {
+    macro_rules! places {
+        ($kind:ty: $($field:ident)*) => { vec![$((stringify!($field), offset_of!($kind, $field))),*] };
+    }
+    let excess = places!(Excess: operating pricing actual);
+    assert_eq!(excess, declared_fields("mewikofu_excess"));
+    let view = places!(raw::View: initial revised modified finals number end width actual price flag operating pricing agino msiq constrained matches
+        excess);
+    assert_eq!(view, declared_fields("mewikofu_view"));
+    let cut = places!(raw::Cut: flags number count missing ends prices reserved);
+    assert_eq!(cut, declared_fields("mewikofu_cut"));
+    let most = format!("\n#define MEWIKOFU_MOST_EXCESS {MOST_EXCESS}\n");
+    assert!(HEADER.contains(&most));
 }
 
 /// One version: the file VERSION, this crate's and the header's.

@@ -3,7 +3,8 @@
 
 use mewikofu::{book_bytes, cut, line_part, raw, settle, settle_into, view, Refusal, Side};
 use reference::generate::{
-    damaged_day, pulled_day, pulled_fault_day, set_day, set_fault_day, valid_day,
+    damaged_day, excess_day, excess_fault_day, pulled_day, pulled_fault_day, set_day,
+    set_fault_day, valid_day,
 };
 use reference::layout::{day_length, signed, word, LINE_BYTES, MOST_LINES};
 
@@ -15,18 +16,20 @@ fn days() -> u64 {
     wanted.map_or(20_000, |wanted| wanted.parse().expect("a number of days"))
 }
 
-/// Seeds in a row; every second day is damaged, of six days two have accreditation by schedule and two pulled bids.
-/// Boxed, so that memcheck sees a read past the end.
+/// Seeds in a row; every second day is damaged, of eight days two have accreditation by schedule, two pulled bids and two totals above the
+/// greatest break. Boxed, so that memcheck sees a read past the end.
 fn day(k: u64) -> Box<[u8]> {
-    const DRAWS: [fn(u64) -> Vec<u8>; 6] = [
+    const DRAWS: [fn(u64) -> Vec<u8>; 8] = [
         valid_day,
         damaged_day,
         set_day,
         set_fault_day,
         pulled_day,
         pulled_fault_day,
+        excess_day,
+        excess_fault_day,
     ];
-    DRAWS[k as usize % 6](k / 6).into()
+    DRAWS[k as usize % 8](k / 8).into()
 }
 
 /// Some number below n, from the day's own number.
@@ -42,12 +45,16 @@ fn refused<T>(number: u32) -> Result<T, Refusal> {
     Err(Refusal::of_number(number).expect("a number of the table"))
 }
 
-/// How often each number was answered, so that the test shows what it reached.
-type Reached = [u64; Refusal::ALL.len() + 1];
+/// How often each number was answered, and how many views had an excess of operating, pricing and actual, so that the test shows what it reached.
+#[derive(Debug, Default)]
+struct Reached {
+    numbers: [u64; Refusal::ALL.len() + 1],
+    excess: [u64; 3],
+}
 
 #[test]
 fn generated_days() {
-    let mut reached: Reached = [0; Refusal::ALL.len() + 1];
+    let mut reached = Reached::default();
     let count = days();
     for k in 0..count {
         let day = day(k);
@@ -60,10 +67,11 @@ fn generated_days() {
         check_cuts(k, &day, lines, &mut reached);
         assert_eq!(day, before, "day {k} was changed");
     }
-    println!("{count} days; answers of each number from 0 on: {reached:?}");
+    println!("{count} days; answers of each number from 0 on, and views with excess: {reached:?}");
     // Document 01's numbers. For each of the table fuzzing asks whether the calls of its place answer it.
     if count >= 1_000 {
-        assert!(reached[..=18].iter().all(|&times| times > 0), "{reached:?}");
+        let mut all = reached.numbers[..=18].iter().chain(&reached.excess);
+        assert!(all.all(|&times| times > 0), "{reached:?}");
     }
 }
 
@@ -76,7 +84,7 @@ fn check_settling(k: u64, day: &[u8], lines: usize, reached: &mut Reached) {
         let number = reference::settle::settle(day, &mut expected);
         let mut book = pattern.clone();
         let answer = settle_into(day, &mut book);
-        reached[number as usize] += 1;
+        reached.numbers[number as usize] += 1;
         match number {
             0 => assert_eq!(answer, Ok(()), "day {k} room {room}"),
             _ => assert_eq!(answer, refused(number), "day {k} room {room}"),
@@ -135,7 +143,12 @@ fn check_views(k: u64, day: &[u8], lines: usize, reached: &mut Reached) {
         (huge, huge),
     ] {
         let expected = reference::view::view(day, line as u64, step as u64);
-        reached[expected.number as usize] += 1;
+        reached.numbers[expected.number as usize] += 1;
+        let excess = &expected.excess;
+        let rows = [excess.operating, excess.pricing, [excess.actual; 5]];
+        for (times, row) in reached.excess.iter_mut().zip(rows) {
+            *times += u64::from(row != [0; 5]);
+        }
         check_view(
             &format!("day {k} line {line} step {step}"),
             day,
@@ -146,9 +159,14 @@ fn check_views(k: u64, day: &[u8], lines: usize, reached: &mut Reached) {
     }
 }
 
+/// The C function's answer, with its number, and what the safe one makes of it.
 fn check_view(at: &str, day: &[u8], line: usize, step: usize, expected: reference::view::View) {
-    let number = expected.number;
-    let expected = mewikofu::View {
+    let expected = raw::View {
+        initial: expected.initial,
+        revised: expected.revised,
+        modified: expected.modified,
+        finals: expected.finals,
+        number: expected.number,
         end: expected.upper,
         width: expected.width,
         actual: expected.actual,
@@ -160,35 +178,17 @@ fn check_view(at: &str, day: &[u8], line: usize, step: usize, expected: referenc
         msiq: expected.msiq,
         constrained: expected.constrained_on,
         matches: expected.matches,
-        initial: expected.initial,
-        revised: expected.revised,
-        modified: expected.modified,
-        finals: expected.finals,
+        excess: mewikofu::Excess {
+            operating: expected.excess.operating,
+            pricing: expected.excess.pricing,
+            actual: expected.excess.actual,
+        },
     };
-    match number {
-        0 => assert_eq!(view(day, line, step).as_ref(), Ok(&expected), "{at}"),
-        _ => assert_eq!(view(day, line, step), refused(number), "{at}"),
+    assert_eq!(raw::view(day, line, step), expected, "{at}");
+    match expected.number {
+        0 => assert_eq!(view(day, line, step), Ok(expected.into()), "{at}"),
+        number => assert_eq!(view(day, line, step), refused(number), "{at}"),
     }
-    // Every lent place is written, with 0 where the view is refused.
-    let mut places = mewikofu::View {
-        end: u32::MAX,
-        width: u32::MAX,
-        actual: u32::MAX,
-        price: [u32::MAX; 5],
-        flag: [u32::MAX; 5],
-        operating: [u32::MAX; 5],
-        pricing: [u32::MAX; 5],
-        agino: [u32::MAX; 5],
-        msiq: [u32::MAX; 5],
-        constrained: [u32::MAX; 5],
-        matches: [u32::MAX; 10],
-        initial: [i64::MIN; 5],
-        revised: [i64::MIN; 5],
-        modified: [i64::MIN; 5],
-        finals: [i64::MIN; 5],
-    };
-    assert_eq!(raw::view(day, line, step, &mut places), number, "{at}");
-    assert_eq!(places, expected, "{at}");
 }
 
 fn check_parts(k: u64, day: &[u8], lines: usize, reached: &mut Reached) {
@@ -202,7 +202,7 @@ fn check_parts(k: u64, day: &[u8], lines: usize, reached: &mut Reached) {
     for place in places.into_iter().chain(HUGE) {
         let number = reference::refusal::line_part_number(day, place as u64);
         let expected = reference::line_part::line_part(day, place as u64);
-        reached[number as usize] += 1;
+        reached.numbers[number as usize] += 1;
         match (line_part(day, place), number) {
             // The day's own bytes, not only equal ones.
             (Ok(part), 0) => assert_eq!(part.as_ptr_range(), expected.as_ptr_range()),
@@ -223,7 +223,7 @@ fn check_cuts(k: u64, day: &[u8], lines: usize, reached: &mut Reached) {
             let start = day_length(line).min(day.len());
             let bytes: Box<[u8]> = day[start..(start + length).min(day.len())].into();
             let expected = reference::cut::cut(&bytes);
-            reached[expected.number as usize] += 1;
+            reached.numbers[expected.number as usize] += 1;
             check_cut(
                 &format!("day {k} line {line} length {length}"),
                 &bytes,
@@ -233,26 +233,20 @@ fn check_cuts(k: u64, day: &[u8], lines: usize, reached: &mut Reached) {
     }
 }
 
+/// As `check_view`.
 fn check_cut(at: &str, bytes: &[u8], expected: reference::cut::Cut) {
-    let number = expected.number;
-    let expected = mewikofu::Cut {
+    let expected = raw::Cut {
+        flags: expected.flags,
+        number: expected.number,
         count: expected.count,
+        missing: expected.missing,
         ends: expected.ends,
         prices: expected.prices,
-        flags: expected.flags,
-        missing: expected.missing,
+        reserved: 0,
     };
-    match number {
-        0 => assert_eq!(cut(bytes).as_ref(), Ok(&expected), "{at}"),
-        _ => assert_eq!(cut(bytes), refused(number), "{at}"),
+    assert_eq!(raw::cut(bytes), expected, "{at}");
+    match expected.number {
+        0 => assert_eq!(cut(bytes), Ok(expected.into()), "{at}"),
+        number => assert_eq!(cut(bytes), refused(number), "{at}"),
     }
-    let mut places = mewikofu::Cut {
-        count: u32::MAX,
-        ends: [u32::MAX; 56],
-        prices: [[u32::MAX; 56]; 5],
-        flags: [u64::MAX; 5],
-        missing: [u32::MAX; 5],
-    };
-    assert_eq!(raw::cut(bytes, &mut places), number, "{at}");
-    assert_eq!(places, expected, "{at}");
 }

@@ -11,6 +11,7 @@ mod settled;
 use crate::accreditation;
 use crate::amounts::{dollars, Energy, MONEY_PLACES, PRICE_PLACES};
 use crate::arguments::Options;
+use crate::excess;
 use crate::figures::{Figures, Line};
 use crate::layout::SCHEDULES;
 use crate::lists::pulled_sentence;
@@ -42,6 +43,22 @@ struct Drawn<'a> {
     energy: Energy,
     /// The line that is shown at first.
     chosen: usize,
+}
+
+impl Drawn<'_> {
+    /// A number of MJ in the page's unit, with its name.
+    fn quantity(&self, value: u32) -> String {
+        format!(
+            "{} {}",
+            self.energy.write(i64::from(value)),
+            self.energy.name()
+        )
+    }
+
+    /// What no step of a line takes, as a sentence; nothing where there is none.
+    fn excess_sentence(&self, line: &Line) -> String {
+        excess::sentence(line, |value| self.quantity(value))
+    }
 }
 
 /// The page of a day on which one of its lines is shown at first. It is made only if its figures are those of the book.
@@ -208,15 +225,12 @@ fn line_words(drawn: &Drawn, line: &Line) -> String {
     };
     let hedge = match line.hedge {
         0 => "No hedge.".to_string(),
-        hedge => format!(
-            "Hedged up to {} {}.",
-            drawn.energy.write(i64::from(hedge)),
-            drawn.energy.name()
-        ),
+        hedge => format!("Hedged up to {}.", drawn.quantity(hedge)),
     };
     let steps = counted(line.steps.len(), "step");
     let pulled = pulled_sentence(&line.pulled());
-    format!("{accredited}{paid}. {hedge} {steps}.{pulled}")
+    let excess = drawn.excess_sentence(line);
+    format!("{accredited}{paid}. {hedge} {steps}.{pulled}{excess}")
 }
 
 /// The heading of schedule s, from 0, in a line's table and plots.

@@ -5,7 +5,7 @@ use super::markup::{at, Markup};
 use super::{schedule_heading, Drawn, Unpaid};
 use crate::amounts::{dollars, dollars_alike, PRICE_PLACES};
 use crate::figures::Line;
-use crate::layout::SCHEDULES;
+use crate::layout::{BySchedule, SCHEDULES};
 use crate::lists::pulled_sentence;
 use mewikofu::Side;
 use std::fmt::Write;
@@ -24,6 +24,8 @@ struct Plots<'a> {
     line: &'a Line,
     prices: Prices,
     end: i64,
+    /// Names and values, in MJ, of the line's excesses that aren't 0 in all schedules.
+    excesses: Vec<(&'static str, BySchedule<u32>)>,
     /// Highest and lowest place.
     top: f64,
     bottom: f64,
@@ -56,7 +58,10 @@ impl<'a> Plots<'a> {
     fn new(drawn: &'a Drawn<'a>, k: usize, line: &'a Line) -> Plots<'a> {
         let market = &drawn.day.market;
         let capped = market.marks.contains(&true);
-        let top = if capped { 66.0 } else { 50.0 };
+        let excess = line.excess();
+        let mut excesses = vec![("operating", excess.operating), ("pricing", excess.pricing)];
+        excesses.retain(|(_, row)| *row != [0; SCHEDULES]);
+        let top = row_place(usize::from(capped) + excesses.len()) + 1.0;
         let bottom = top + HEIGHT;
         let steps = 0..line.steps.len();
         let bids = steps.flat_map(|j| (0..SCHEDULES).map(move |s| (s, j)));
@@ -75,6 +80,7 @@ impl<'a> Plots<'a> {
                 .map(|step| i64::from(step.end))
                 .max()
                 .unwrap_or(0),
+            excesses,
             top,
             bottom,
         }
@@ -87,9 +93,10 @@ impl<'a> Plots<'a> {
         };
         format!(
             "Five plots, one for each schedule: the price of each step along the line's quantity in {}, the market price, \
-             the cap where one applies, and what is constrained on between the two prices. Parts that aren't paid are hatched.{cut}{}",
+             the cap where one applies, and what is constrained on between the two prices. Parts that aren't paid are hatched.{cut}{}{}",
             self.drawn.energy.name(),
-            pulled_sentence(&self.line.pulled())
+            pulled_sentence(&self.line.pulled()),
+            self.drawn.excess_sentence(self.line)
         )
     }
 
@@ -173,7 +180,7 @@ impl<'a> Plots<'a> {
         page.close();
     }
 
-    /// Market price, and cap where it applies.
+    /// Market price, cap where it applies, and excess where there is some.
     fn heading(&self, page: &mut Markup, s: usize, left: f64) {
         let market = &self.drawn.day.market;
         let place = |y: f64, class: &str| {
@@ -185,7 +192,15 @@ impl<'a> Plots<'a> {
         page.element(&place(33.0, "market-words"), &words);
         if market.marks[s] {
             let words = format!("cap (APC) {}", written(market.cap));
-            page.element(&place(49.0, "cap-words"), &words);
+            page.element(&place(row_place(0), "cap-words"), &words);
+        }
+        // Below the cap, also where another schedule has it.
+        let first = usize::from(market.marks.contains(&true));
+        for (k, (name, row)) in self.excesses.iter().enumerate() {
+            if row[s] > 0 {
+                let words = format!("{name} excess {}", self.drawn.quantity(row[s]));
+                page.element(&place(row_place(first + k), "excess-words"), &words);
+            }
         }
     }
 
@@ -312,6 +327,11 @@ impl<'a> Plots<'a> {
             label_at(page, x, self.bottom + 18.0, anchor, &label);
         }
     }
+}
+
+/// Where row k, from 0, below a plot's market price stands.
+fn row_place(k: usize) -> f64 {
+    49.0 + 16.0 * k as f64
 }
 
 fn path(page: &mut Markup, class: &str, d: &str) {

@@ -23,6 +23,7 @@ pub fn cuts(bytes: &[u8], day: &Figures) -> Fits<Vec<Cut>> {
         let part = mewikofu::line_part(bytes, k).map_err(|refusal| refusal.to_string())?;
         let cut = mewikofu::cut(part).map_err(|refusal| refusal.to_string())?;
         payments(line).map_err(|why| format!("line {k}, {why}"))?;
+        excess(line).map_err(|why| format!("line {k}, {why}"))?;
         prices(day, line, &cut).map_err(|why| format!("line {k}, {why}"))?;
         Ok(cut)
     };
@@ -81,6 +82,39 @@ fn payments(line: &Line) -> Fits<()> {
         })?;
     }
     Ok(())
+}
+
+/// Every step has the line's excess, with which the steps' quantities add up to the line's totals and its effective actual.
+fn excess(line: &Line) -> Fits<()> {
+    let own = line.excess();
+    if line.steps.iter().any(|step| step.excess != own) {
+        return Err("excess: not the same in the views of all steps".to_string());
+    }
+    let adds_up = |what: &str, quantity: &dyn Fn(&View) -> u32, excess: u32, total: u64| {
+        let steps = line.steps.iter().map(|step| u64::from(quantity(step)));
+        let sum = steps.sum::<u64>() + u64::from(excess);
+        match sum == total {
+            true => Ok(()),
+            false => Err(format!(
+                "{what}: {sum} MJ with the excess, and the line has {total} MJ"
+            )),
+        }
+    };
+    for s in 0..SCHEDULES {
+        let schedule = s + 1;
+        let (operating, pricing) = (line.totals.operating[s], line.totals.pricing[s]);
+        let what = format!("operating quantities in schedule {schedule}");
+        adds_up(
+            &what,
+            &|step| step.operating[s],
+            own.operating[s],
+            operating,
+        )?;
+        let what = format!("pricing quantities in schedule {schedule}");
+        adds_up(&what, &|step| step.pricing[s], own.pricing[s], pricing)?;
+    }
+    let total = line.totals.actual;
+    adds_up("effective actuals", &|step| step.actual, own.actual, total)
 }
 
 /// The views have the cutter's ends, flags and, cut down to the cap, prices.

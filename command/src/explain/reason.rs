@@ -4,6 +4,7 @@ use crate::figures::{Figures, Line};
 use crate::layout::*;
 use crate::output::Unit;
 use crate::settle::side_word;
+use crate::steps::{excess_cells, EXCESS_COLUMNS};
 use mewikofu::{match_place, Cut, Side, View};
 use serde_json::{json, Value};
 
@@ -275,6 +276,7 @@ impl<'a> Reason<'a> {
         self.fits("O", self.allocated(totals.operating[s]), o.into())?;
         self.fits("E", self.allocated(totals.pricing[s]), e.into())?;
         self.fits("A", self.allocated(totals.actual), a.into())?;
+        self.check_excess()?;
         let last = SCHEDULES - 1;
         let agino = match s {
             4 => o.saturating_sub(a),
@@ -290,6 +292,21 @@ impl<'a> Reason<'a> {
         self.fits("C", c.max(0), i64::from(view.constrained[s]))?;
         let matched: u64 = self.matches.iter().map(|one| u64::from(one.quantity)).sum();
         self.fits("the sum of its matches", matched, u64::from(self.fall))
+    }
+
+    /// What the line's totals and its effective actual have above its greatest break.
+    fn check_excess(&self) -> Fits<()> {
+        let (excess, s, totals) = (&self.view.excess, self.s, &self.own.totals);
+        let most = u64::from(self.own.greatest_break());
+        for (of, total, view) in [
+            ("operating total", totals.operating[s], excess.operating[s]),
+            ("pricing total", totals.pricing[s], excess.pricing[s]),
+            ("effective actual", totals.actual, excess.actual),
+        ] {
+            let worked_out = total.saturating_sub(most);
+            self.fits(&format!("the excess of the {of}"), worked_out, view.into())?;
+        }
+        Ok(())
     }
 
     /// The matches of this schedule's fall, the latest rise first.
@@ -428,6 +445,7 @@ pub fn columns(unit: Unit) -> Vec<String> {
         vec!["b".to_string()],
         payments,
         vec!["rule".to_string()],
+        EXCESS_COLUMNS.map(String::from).to_vec(),
     ]
     .concat()
 }
@@ -465,6 +483,7 @@ impl Reason<'_> {
             .map(|value| unit.money(value)),
         );
         row.extend([share, unit.money(self.paid), self.rule.name().to_string()]);
+        row.extend(excess_cells(view, s));
         row
     }
 
@@ -501,6 +520,7 @@ impl Reason<'_> {
             "initial": view.initial[s], "revised": view.revised[s], "modified": view.modified[s],
             "t": self.pool.total, "b": self.pool.base(), "share": self.share.map(|share| share.quotient),
             "rule": self.rule.name(), "final": self.paid,
+            "operating_excess": view.excess.operating[s], "pricing_excess": view.excess.pricing[s], "actual_excess": view.excess.actual,
         })
     }
 }

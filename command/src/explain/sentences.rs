@@ -76,13 +76,7 @@ fn names(side: Side) -> [&'static str; 2] {
 pub fn quantity_words(reason: &Reason) -> String {
     let (view, s) = (reason.view, reason.s);
     let [agino, msiq] = names(reason.side);
-    let [o, e, a] = [view.operating[s], view.pricing[s], view.actual].map(gj);
-    let totals = &reason.own.totals;
-    let [operating, pricing, actual] =
-        [totals.operating[s], totals.pricing[s], totals.actual].map(gj);
-    let allocated = format!(
-        "of the line's operating total {operating}, pricing total {pricing} and effective actual {actual}, this step has O = {o}, E = {e} and A = {a}"
-    );
+    let allocated = allocated_words(reason);
     let (last, value) = (SCHEDULES - 1, gj(view.agino[s]));
     let agino_words = match (s, view.agino[last]) {
         (4, _) => format!("{agino} is O less A, at least 0: {value}"),
@@ -112,6 +106,30 @@ pub fn quantity_words(reason: &Reason) -> String {
         }
     };
     format!("Quantities: {allocated}. {agino_words}. {msiq_words}.")
+}
+
+/// What the step has of the line's totals.
+fn allocated_words(reason: &Reason) -> String {
+    let (view, s) = (reason.view, reason.s);
+    let [o, e, a] = [view.operating[s], view.pricing[s], view.actual].map(gj);
+    let (totals, excess) = (&reason.own.totals, &view.excess);
+    let [operating, pricing, actual] = [
+        (totals.operating[s], excess.operating[s]),
+        (totals.pricing[s], excess.pricing[s]),
+        (totals.actual, excess.actual),
+    ]
+    .map(total_words);
+    format!(
+        "of the line's operating total {operating}, pricing total {pricing} and effective actual {actual}, this step has O = {o}, E = {e} and A = {a}"
+    )
+}
+
+/// A total, and how much of it no step takes.
+fn total_words((total, excess): (u64, u32)) -> String {
+    match excess {
+        0 => gj(total),
+        _ => format!("{} ({} of it excess)", gj(total), gj(excess)),
+    }
 }
 
 /// C, and its rise or fall with the matches.

@@ -7,6 +7,7 @@ use super::sentences::{
 use super::{totals, Explained, Wanted};
 use crate::accreditation;
 use crate::amounts::{gj, price};
+use crate::excess;
 use crate::figures::{Figures, Line};
 use crate::layout::SCHEDULES;
 use crate::lists::{joined, number_words, pulled_sentence};
@@ -122,7 +123,8 @@ fn put_line(text: &mut Text, k: usize, line: &Line, reasons: &[&Reason], wanted:
     let (participant, point, side) = (entry.participant, entry.point, side_words(entry.side));
     let size = counted(line.steps.len(), "step");
     let pulled = pulled_sentence(&line.pulled());
-    text.put(0, &format!("Line {k}: participant {participant}, point {point}, {side}, {accredited}, {hedge}, {size}.{pulled}"));
+    let excess = excess::sentence(line, gj);
+    text.put(0, &format!("Line {k}: participant {participant}, point {point}, {side}, {accredited}, {hedge}, {size}.{pulled}{excess}"));
     if wanted.schedule.is_none() && wanted.step.is_none() {
         let payments: Vec<String> = entry.payments.iter().map(|&one| money(one)).collect();
         let (sum, all) = (sum_of(&payments), entry.payments.iter().sum());

@@ -2,15 +2,17 @@
 
 use crate::draw::{example, EXAMPLES};
 use crate::{
-    accreditation_words, days, example_text, k10_accredited, k10_pulled, pull, run,
-    sets_of_reschedules, stored, with_pulled, with_sets,
+    accreditation_words, actual_word, days, example_text, k10_accredited, k10_each_excess,
+    k10_pulled, k10_with, operating_word, pricing_word, pull, run, sets_of_reschedules, stored,
+    with_pulled, with_sets,
 };
 use mewikofu::Refusal;
 use mewikofu_command::input::Input;
 use mewikofu_command::outcome::Status;
 use mewikofu_command::refusals::{cut_faults, day_faults, explain_day};
 use reference::generate::{
-    damaged_day, damaged_day_and_number, damaged_line, edge_days, valid_day,
+    damaged_day, damaged_day_and_number, damaged_line, edge_days, excess_day, excess_fault_day,
+    excess_fault_line, valid_day,
 };
 use reference::layout::put_word;
 use std::collections::{BTreeMap, BTreeSet};
@@ -119,14 +121,20 @@ fn greatest_break_without_a_pulled_bid() {
     let said = run(&["make", "--check"], text.as_bytes()).text();
     assert_eq!(said, "standard input: accepted\n");
     let text = text.replace("bid 2 = 3000@$5\nbid 3..5", "bid 2..5");
-    let most = "the most is the greatest break of its bids, 1,000 MJ (the bids of schedules 2 to 5 were pulled)";
-    let said = refused(&["make", "--check"], text.as_bytes());
+    let most =
+        "the greatest break of its bids, 1,000 MJ (the bids of schedules 2 to 5 were pulled)";
+    // The totals are up to 2,000, which is 1,000 above it.
+    let said = run(&["make", "--check"], text.as_bytes()).text();
+    assert_eq!(said, "standard input: accepted\n");
+    let above = text.replace("operating 2..3 = 1000 1000", "operating 2..3 = 1000 1005");
+    assert_ne!(above, text);
+    let said = refused(&["make", "--check"], above.as_bytes());
     assert!(said.starts_with("refused 12: "), "{said}");
-    let words = format!("operating total of schedule 2: 2,000 MJ; {most}\n");
+    let words = format!("operating total of schedule 2: 2,005 MJ, which is 5 MJ too much; the most is 2,000 MJ, which is 1,000 MJ above {most}\n");
     assert!(said.ends_with(&words), "{said}");
     let text = text.replace("hedge       = 0", "hedge = 1001");
     let said = refused(&["make", "--check"], text.as_bytes());
-    let words = format!("hedge: 1,001 MJ; {most}\n");
+    let words = format!("hedge: 1,001 MJ; the most is {most}\n");
     assert!(
         said.starts_with("refused 11: ") && said.ends_with(&words),
         "{said}"
@@ -143,6 +151,8 @@ fn first_faults_have_the_proved_number() {
         .chain((0..200).map(|seed| with_sets(valid_day(seed), seed)))
         .chain((0..200).map(|seed| with_pulled(valid_day(seed), seed)))
         .chain((0..days(500)).map(|seed| pulled_anyhow(damaged_day(seed), seed)))
+        .chain((0..200).map(excess_day))
+        .chain((0..days(500)).map(excess_fault_day))
         .chain(accreditation_words().map(k10_accredited))
         .chain(edge_days());
     for day in all {
@@ -154,7 +164,8 @@ fn first_faults_have_the_proved_number() {
         numbers.insert(number);
     }
     assert!(numbers.into_iter().eq(0..=14));
-    for line in (0..days(2_000)).map(damaged_line) {
+    let faults = (0..days(500)).map(excess_fault_line);
+    for line in (0..days(2_000)).map(damaged_line).chain(faults) {
         let number = mewikofu::cut(&line).map_or_else(|refusal| refusal.number(), |_| 0);
         let found = cut_faults(&line, false)
             .first()
@@ -167,6 +178,8 @@ fn first_faults_have_the_proved_number() {
 #[test]
 fn places_values_and_limits() {
     let line = "line 0 (participant 7, point 3, INJ), ";
+    let most =
+        "the most is 4,000 MJ, which is 1,000 MJ above the greatest break of its bids, 3,000 MJ";
     let cases: [(usize, u32, &str); 28] = [
         (0, 65, "the header's line count is 65; it must be 1 to 64"),
         (1, 20, "the header's offset of the market table is 20; with 1 line it must be 16"),
@@ -192,17 +205,18 @@ fn places_values_and_limits() {
         (24, 5000, "*bid of schedule 1, slot 3: break 5,000; the bid's count is 2, so it must be 0"),
         (43, 1, "*bid of schedule 1, slot 11: price 1; the bid's count is 2, so it must be 0"),
         (20, 3001, "*hedge: 3,001 MJ; the most is the greatest break of its bids, 3,000 MJ"),
-        (136, 3001, "*pricing total of schedule 1: 3,001 MJ; the most is the greatest break of its bids, 3,000 MJ"),
-        (151, 3001, "*operating total of schedule 1: 3,001 MJ; the most is the greatest break of its bids, 3,000 MJ"),
-        (155, u32::MAX, "*operating total of schedule 1: 4,294,968,295 MJ; the most is the greatest break of its bids, 3,000 MJ"),
+        (136, 4001, "*pricing total of schedule 1: 4,001 MJ, which is 1 MJ too much; MOST"),
+        (151, 6000, "*operating total of schedule 1: 6,000 MJ, which is 2,000 MJ too much; MOST"),
+        (155, u32::MAX, "*operating total of schedule 1: 4,294,968,295 MJ, which is 4,294,964,295 MJ too much; MOST"),
         (180, 200_000_001, "*actual of interval 5: 200,000,001 MJ; the most is 200,000,000 MJ"),
     ];
     for (place, value, words) in cases {
         let mut day = stored("examples/k10.day");
         put_word(&mut day, place, value);
+        let words = words.replace("MOST", most);
         let words = match words.strip_prefix('*') {
             Some(words) => format!("{line}{words}"),
-            None => words.to_string(),
+            None => words,
         };
         let text = refused(&["check"], &day);
         assert!(
@@ -210,6 +224,47 @@ fn places_values_and_limits() {
             "{text} for {words}"
         );
     }
+}
+
+/// Totals up to 1,000 MJ above the greatest break are accepted, whatever their entries are; the first above is refused, by value and limit in tables
+/// and JSON too.
+#[test]
+fn totals_above_the_greatest_break() {
+    let accepted = |day: &[u8]| {
+        let said = run(&["check"], day).text();
+        assert_eq!(said, "standard input: accepted\n");
+    };
+    accepted(&k10_each_excess());
+    // With the greatest break at the quantity limit an entry is above it.
+    let most = 200_000_000;
+    let breaks = (0..5).map(|bid| (5 + 23 * bid + 2, most));
+    for s in 1..=5 {
+        // Pricing row 1 begins with 1,000, which every total has.
+        let operating = (operating_word(s, 5), most);
+        let pricing = (pricing_word(s, 5), most - 1_000);
+        for ((place, full), name) in [(operating, "operating"), (pricing, "pricing")] {
+            let day = |over: u32| {
+                let cleared = (1..5).map(|i| (operating_word(s, i), 0));
+                let words = breaks.clone().chain(cleared).chain([(place, full + over)]);
+                k10_with(&words.collect::<Vec<_>>())
+            };
+            accepted(&day(1_000));
+            let said = refused(&["check"], &day(1_001));
+            let words = format!(
+                "{name} total of schedule {s}: 200,001,001 MJ, which is 1 MJ too much; the most is 200,001,000 MJ, which is 1,000 MJ above the \
+                 greatest break of its bids, 200,000,000 MJ\n"
+            );
+            assert!(said.ends_with(&words), "{said}");
+            let json = run(&["check", "--json"], &day(2_000)).out;
+            let json: serde_json::Value = serde_json::from_slice(&json).unwrap();
+            let fault = &json["faults"][0];
+            let values = ["number", "schedule", "value", "limit"].map(|key| fault[key].as_u64());
+            assert_eq!(values, [12, s as u64, 200_002_000, 200_001_000].map(Some));
+        }
+    }
+    // An actual has no such room.
+    let said = refused(&["check"], &k10_with(&[(actual_word(1), most + 1)]));
+    assert!(said.starts_with("refused 13: "), "{said}");
 }
 
 /// A set of schedules is accepted; a number is the word itself, so schedule 3 alone isn't 3.

@@ -2,15 +2,15 @@
 
 use crate::draw_page::{points, read, Element};
 use crate::{
-    accredited_schedules, k10_accredited, k10_pulled, run, run_with, sets_of_reschedules, stored,
-    with_pulled, with_sets,
+    accredited_schedules, k10_accredited, k10_each_excess, k10_operating_excess, k10_pulled, run,
+    run_with, sets_of_reschedules, stored, with_pulled, with_sets,
 };
 use mewikofu::Accreditation;
 use mewikofu_command::draw::page;
 use mewikofu_command::figures::Figures;
 use mewikofu_command::make::make;
 use mewikofu_command::outcome::Status;
-use reference::generate::{small_day, valid_day};
+use reference::generate::{excess_day, small_day, small_excess_day, valid_day};
 use reference::layout::{signed, word, SCHEDULES};
 use reference::view::{DayView, View};
 use std::collections::BTreeSet;
@@ -22,6 +22,7 @@ pub const EXAMPLES: &[&str] = &[
     "rules",
     "accreditation",
     "pulled",
+    "excess",
     "winter",
 ];
 
@@ -37,7 +38,10 @@ pub fn drawn(day: &[u8], line: usize) -> String {
 fn days(count: u64) -> Vec<Vec<u8>> {
     let examples = EXAMPLES.iter().map(|name| example(name));
     let generated = (0..count).flat_map(|seed| {
-        let days = [valid_day(seed), small_day(seed)];
+        let days = match seed % 5 {
+            0 => [excess_day(seed), small_excess_day(seed)],
+            _ => [valid_day(seed), small_day(seed)],
+        };
         let days = match seed % 2 {
             0 => days,
             _ => days.map(|day| with_sets(day, seed)),
@@ -48,7 +52,7 @@ fn days(count: u64) -> Vec<Vec<u8>> {
         }
     });
     examples
-        .chain([far_above(), far_below()])
+        .chain([far_above(), far_below(), k10_each_excess()])
         .chain(generated)
         .collect()
 }
@@ -382,6 +386,18 @@ impl PriceAxis {
     }
 }
 
+/// How often the price axis of a line is cut: where a bid or the cap lies above or below it, and below where it doesn't begin at 0.
+fn expected_breaks(day: &[u8], line: usize, axis: &PriceAxis) -> usize {
+    let cut = reference::cut::cut(&day[64 + 660 * line..][..660]);
+    let bids = cut.prices.iter().flat_map(|row| &row[..cut.count as usize]);
+    let cap = (9..14).any(|place| word(day, place) == 1);
+    let prices = bids.copied().chain(cap.then_some(word(day, 14)));
+    let prices: Vec<f64> = prices.map(f64::from).collect();
+    let above = prices.iter().any(|&price| price > axis.high);
+    let below = axis.low > 0.0 || prices.iter().any(|&price| price < axis.low);
+    usize::from(above) + usize::from(below)
+}
+
 /// A schedule's heading in a line's table and plots, from the count of its bid.
 fn expected_heading(day: &[u8], line: usize, s: usize) -> String {
     let pulled = match line_word(day, line, 5 + 23 * s) {
@@ -391,16 +407,60 @@ fn expected_heading(day: &[u8], line: usize, s: usize) -> String {
     format!("Schedule {}{pulled}", s + 1)
 }
 
+/// Above the plot of a schedule are the excesses that aren't 0 there, operating first, each in a row of its own and none on the plots. Answers how many.
+fn excess_words(plots: &Element, step: &View, places: usize) -> usize {
+    let mut expected = Vec::new();
+    for s in 0..SCHEDULES {
+        for (name, row) in [
+            ("operating excess ", step.excess.operating),
+            ("pricing excess ", step.excess.pricing),
+        ] {
+            if row[s] > 0 {
+                expected.push((s, name, i64::from(row[s])));
+            }
+        }
+    }
+    let found = plots.of_class("excess-words");
+    assert_eq!(found.len(), expected.len());
+    let top = points(plots.of_class("frame")[0].attribute("d"))[0][0].1;
+    let mut rows = BTreeSet::new();
+    for (words, &(s, name, value)) in found.iter().zip(&expected) {
+        let text = words.text.strip_prefix(name).expect(name);
+        let (quantity, unit) = text.split_once(' ').unwrap();
+        assert_eq!(
+            (units(quantity, places), unit == "GJ"),
+            (value, places == 3)
+        );
+        assert_eq!(words.number("x"), LEFT + PITCH * s as f64);
+        let y = words.number("y");
+        assert!(y > 33.0 && y < top, "{y} {top}");
+        rows.insert((y as u32, name));
+    }
+    // The rows of the two names are apart, and below the cap's.
+    let below = plots.of_class("cap-words");
+    let below = below.iter().map(|words| words.number("y") as u32);
+    let mut heights: Vec<u32> = rows
+        .into_iter()
+        .map(|(y, _)| y)
+        .chain(below.take(1))
+        .collect();
+    heights.sort_unstable();
+    assert!(heights.windows(2).all(|pair| pair[0] + 12 < pair[1]));
+    expected.len()
+}
+
 /// In each schedule's plot: step prices, market price, cap where it applies, hatched exactly the steps that aren't paid in it, and what is constrained on.
 #[test]
 fn price_plots() {
     let (mut hatched, mut filled, mut outlined, mut capped, mut broken, mut cut_down) =
         (0, 0, 0, 0, 0, 0);
-    let mut pulled = 0;
+    let (mut pulled, mut above) = (0, 0);
     for day in days(25) {
         let page = read(&drawn(&day, 0));
+        let places = unit_places(&page);
         for (line, steps) in steps_of(&day).into_iter().enumerate() {
             let plots = page.by_id(&format!("line-{line}")).of_class("prices")[0];
+            above += excess_words(plots, &steps[0], places);
             let axis = PriceAxis::new(plots);
             let end = f64::from(steps[steps.len() - 1].upper);
             let groups = plots.named("g");
@@ -507,13 +567,15 @@ fn price_plots() {
                 }
                 filled += on.len();
                 outlined += free.len();
-                broken += plot.of_class("break").len();
+                let breaks = plot.of_class("break").len();
+                assert_eq!(breaks, expected_breaks(&day, line, &axis));
+                broken += breaks;
             }
         }
     }
-    let counts = [hatched, filled, outlined, capped, cut_down, pulled];
+    let counts = [hatched, filled, outlined, capped, cut_down, pulled, above];
     assert!(counts.iter().all(|&count| count > 100), "{counts:?}");
-    assert_eq!(broken, 2 * SCHEDULES);
+    assert!(broken >= 2 * SCHEDULES, "{broken}");
 }
 
 /// K10's rise in schedule 2 and fall in schedule 4, and what is said of the line, by accreditation.
@@ -626,6 +688,42 @@ fn pulled_bids() {
             assert_eq!(drawn, [due], "{set:?}");
         }
     }
+}
+
+/// What no step takes is told in the line's sentence, of its plots too, and above the plots of its schedules; bars and sums are those of the steps.
+#[test]
+fn excess() {
+    let takes = "no step takes this excess, and it is neither constrained on nor paid.";
+    for (day, words, plots) in [
+        (
+            k10_operating_excess(),
+            format!("The operating total (by 500 MJ in schedule 2) is above the greatest break of the line's bids, 3,000 MJ: {takes}"),
+            &["operating excess 500 MJ"][..],
+        ),
+        (
+            k10_each_excess(),
+            format!("The operating total (by 900 MJ in schedule 5), the pricing total (by 1 MJ in schedule 2 and 1,000 MJ in schedule 3) and the effective \
+                     actual (by 700 MJ) are above the greatest break of the line's bids, 3,000 MJ: {takes}"),
+            &["pricing excess 1 MJ", "pricing excess 1,000 MJ", "operating excess 900 MJ"],
+        ),
+    ] {
+        let page = read(&drawn(&day, 0));
+        let line = page.by_id("line-0");
+        assert_eq!(line.named("p")[0].text, format!("Accredited. No hedge. 2 steps. {words}"));
+        let told = line.named("desc")[0].whole_text();
+        assert!(told.ends_with(&words), "{told}");
+        let found = line.of_class("excess-words");
+        let found: Vec<&str> = found.iter().map(|one| one.text.as_str()).collect();
+        assert_eq!(found, plots);
+    }
+    let page = read(&drawn(&k10_operating_excess(), 0));
+    let rows = page.by_id("line-0").of_class("changes")[0].rows("tbody");
+    assert_eq!(
+        rows[1][5..11],
+        ["+2,000", "$4.00", "-1,000", "-$2.00", "-500", "-$1.00"]
+    );
+    let text = drawn(&example("k10"), 0);
+    assert!(!text.contains(" excess "), "K10 has none");
 }
 
 /// Well-formed, with nothing from outside and no script; ids are there once, and what refers to them finds them.
@@ -773,7 +871,7 @@ fn far_price() {
 fn only_what_was_settled() {
     let day = example("winter");
     type Change = fn(&mut Figures);
-    let changes: [(&str, Change); 7] = [
+    let changes: [(&str, Change); 11] = [
         ("line 1, steps in schedule 2: $50,400.0000001 in sum, and the book has $50,400.0000000", |day| {
             let step = day.lines[1].steps.iter_mut().find(|step| step.finals[1] > 0);
             step.unwrap().finals[1] += 1;
@@ -784,6 +882,12 @@ fn only_what_was_settled() {
         ("line 1, step 2, schedule 2: $50,400.0000000 for a change of 14000000 MJ on a step that is not paid", |day| {
             day.lines[1].accreditation = Accreditation::In([true, false, true, true, true]);
         }),
+        ("line 2, excess: not the same in the views of all steps", |day| day.lines[2].steps[1].excess.actual += 1),
+        ("line 4, operating quantities in schedule 5: 2500001 MJ with the excess, and the line has 2500000 MJ", |day| {
+            day.lines[4].steps[0].excess.operating[4] += 1;
+        }),
+        ("line 4, pricing quantities in schedule 2: 1 MJ with the excess, and the line has 0 MJ", |day| day.lines[4].steps[0].pricing[1] += 1),
+        ("line 4, effective actuals: 2500001 MJ with the excess, and the line has 2500000 MJ", |day| day.lines[4].steps[0].actual += 1),
         ("line 0, ends: the views' aren't the cutter's", |day| day.lines[0].steps[0].end += 1),
         ("line 4, step 0, schedule 1: the view's price is $34.0001, the cutter's $34.0000", |day| day.lines[4].steps[0].price[0] += 1),
     ];

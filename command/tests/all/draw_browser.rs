@@ -2,7 +2,7 @@
 
 use crate::draw::{drawn, example, far_above, far_below, largest_day};
 use crate::draw_page::unescaped;
-use crate::{k10_accredited, k10_pulled};
+use crate::{k10_accredited, k10_each_excess, k10_pulled};
 use reference::generate::valid_day;
 use std::fs;
 use std::io::Write;
@@ -147,6 +147,8 @@ fn lays_it_out() {
         (far_below(), 0),
         (k10_accredited(53), 0),
         (k10_pulled(&[2, 4, 5]), 0),
+        (k10_each_excess(), 0),
+        (example("excess"), 0),
         (valid_day(53), 0),
         (largest_day(), 63),
     ];

@@ -1,21 +1,23 @@
 //! Explanations.
 
 use crate::{
-    accredited_schedules, k10_accredited, k10_pulled, run, stored, with_pulled, with_sets,
+    accredited_schedules, k10_accredited, k10_each_excess, k10_operating_excess, k10_pulled, run,
+    stored, with_pulled, with_sets,
 };
 use mewikofu_command::explain::{Explained, Reason, Rule};
 use mewikofu_command::figures::Figures;
-use reference::generate::{small_day, small_set_day, valid_day};
+use reference::generate::{excess_day, small_day, small_excess_day, small_set_day, valid_day};
 use reference::layout::{put_word, word};
 use reference::view::view;
 
-/// Days with clawback on and off, with accreditation by line and by schedule, and with bids pulled.
+/// Days with clawback on and off, with accreditation by line and by schedule, with bids pulled and with totals above the greatest break.
 fn days() -> impl Iterator<Item = Vec<u8>> {
     (0..crate::days(250)).map(|seed| {
-        let mut day = if seed % 5 == 0 {
-            valid_day(seed)
-        } else {
-            small_day(seed)
+        let mut day = match (seed % 5, seed % 11) {
+            (0, 0..4) => excess_day(seed),
+            (0, _) => valid_day(seed),
+            (_, 0..4) => small_excess_day(seed),
+            _ => small_day(seed),
         };
         put_word(&mut day, 15, u32::from(seed % 4 != 0));
         let day = match seed % 3 {
@@ -103,6 +105,13 @@ fn changed_figures_are_found() {
     for place in 0..10 {
         fails(&|view| view.matches[place] += 1);
     }
+    for s in 0..5 {
+        fails(&|view| view.excess.operating[s] += 1);
+        fails(&|view| view.excess.pricing[s] += 1);
+    }
+    let why = fails(&|view| view.excess.actual += 1);
+    let words = "line 4, step 1, schedule 1: the excess of the effective actual is worked out as 0, and the view has 1";
+    assert_eq!(why, words);
     let mut figures = Figures::new(&day).unwrap();
     figures.lines[4].entry.payments[1] += 1;
     let why = Explained::new(&day, &figures).err().unwrap();
@@ -254,6 +263,64 @@ fn pulled_bid_sentences() {
     assert!(!text.contains("pulled"), "{text}");
 }
 
+/// What is above the greatest break is said of the line, and of a step's totals. It isn't paid: in schedule 2 C rises by 2,000 of the 2,500.
+#[test]
+fn excess_sentences() {
+    let takes = "no step takes this excess, and it is neither constrained on nor paid.";
+    let text = told(&["--line", "0"], &k10_operating_excess());
+    for words in [
+        format!("no hedge, 2 steps. The operating total (by 0.5 in schedule 2) is above the greatest break of the line's bids, 3: {takes} Over the five"),
+        "Schedule 2: the line is paid $4.00.".to_string(),
+        "of the line's operating total 3.5 (0.5 of it excess), pricing total 1 and effective actual 1.5, this step has O = 2, E = 0 and A = 0.5.".to_string(),
+        "In schedule 1 it was 0, so it rises by 2.".to_string(),
+        // Schedule 3 has no excess.
+        "of the line's operating total 2, pricing total 1 and effective actual 1.5, this step has O = 1, E = 0 and A = 0.5.".to_string(),
+    ] {
+        assert!(text.contains(&words), "{words}\n{text}");
+    }
+    assert_eq!(text.matches("of it excess").count(), 1, "{text}");
+    let place = ["--line", "0", "--step", "0", "--schedule", "5"];
+    let text = told(&place, &k10_each_excess());
+    for words in [
+        format!("2 steps. The operating total (by 0.9 in schedule 5), the pricing total (by 0.001 in schedule 2 and 1 in schedule 3) and the effective actual (by 0.7) \
+                 are above the greatest break of the line's bids, 3: {takes} Schedule 5: "),
+        "of the line's operating total 3.9 (0.9 of it excess), pricing total 1 and effective actual 3.7 (0.7 of it excess), this step has O = 1, E = 1 and A = 1.".to_string(),
+    ] {
+        assert!(text.contains(&words), "{words}\n{text}");
+    }
+    let place = ["--line", "0", "--step", "0", "--schedule", "3"];
+    let text = told(&place, &k10_each_excess());
+    let words = "of the line's operating total 2, pricing total 4 (1 of it excess) and effective actual 3.7 (0.7 of it excess), this step has O = 1, E = 1 and A = 1.";
+    assert!(text.contains(words), "{words}\n{text}");
+    let text = told(&[], &stored("examples/k10.day"));
+    assert!(
+        !text.contains("excess") && !text.contains("greatest break"),
+        "{text}"
+    );
+}
+
+/// Each row has the excess of its schedule.
+#[test]
+fn excess_in_tables() {
+    let day = k10_each_excess();
+    let table = run(&["explain", "--csv"], &day).text();
+    let ends: Vec<String> = table
+        .lines()
+        .map(|row| row.rsplitn(4, ',').take(3).collect::<Vec<_>>().join(" "))
+        .collect();
+    let heading = "actual_excess pricing_excess operating_excess";
+    let rows = ["700 0 0", "700 1 0", "700 1000 0", "700 0 0", "700 0 900"];
+    assert_eq!(ends[0], heading);
+    assert_eq!(ends[1..], [rows, rows].concat());
+    let json = run(&["explain", "--json", "--step", "1", "--line", "0"], &day).output();
+    let json: serde_json::Value = serde_json::from_slice(&json).unwrap();
+    let names = ["actual_excess", "pricing_excess", "operating_excess"];
+    for (payment, row) in json["payments"].as_array().unwrap().iter().zip(rows) {
+        let own = names.map(|name| payment[name].to_string()).join(" ");
+        assert_eq!(own, row);
+    }
+}
+
 /// The cap comes after the price taken over, and the payment is the modified one where clawback is on.
 #[test]
 fn pulled_bid_capped() {
@@ -329,10 +396,16 @@ fn accreditation_by_schedule() {
         assert!(text.contains(words), "{words}\n{text}");
     }
     let table = run(&["explain", "--csv", "--units"], &day).text();
+    let place = |name| {
+        table
+            .split(['\n', ','])
+            .position(|own| own == name)
+            .unwrap()
+    };
     let rules: Vec<&str> = table
         .lines()
         .skip(6)
-        .map(|row| row.rsplit(',').next().unwrap())
+        .map(|row| row.split(',').nth(place("rule")).unwrap())
         .collect();
     let off = "initial: clawback off";
     assert_eq!(

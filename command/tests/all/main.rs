@@ -127,6 +127,52 @@ fn k10_pulled(schedules: &[usize]) -> Vec<u8> {
     day
 }
 
+/// Places of words in a line; schedules and intervals count from 1, a pricing row has the intervals from its schedule on.
+fn pricing_word(s: usize, interval: usize) -> usize {
+    [120, 125, 129, 132, 134][s - 1] + interval - s
+}
+
+fn operating_word(s: usize, interval: usize) -> usize {
+    130 + 5 * s + interval - 1
+}
+
+fn actual_word(interval: usize) -> usize {
+    159 + interval
+}
+
+/// K10's day, whose greatest break is 3,000, with words of its line put.
+fn k10_with(words: &[(usize, u32)]) -> Vec<u8> {
+    let mut day = stored("examples/k10.day");
+    for &(place, value) in words {
+        put_word(&mut day[64..], place, value);
+    }
+    day
+}
+
+/// K10's day with an operating total of 3,500 in schedule 2: 500 above the greatest break.
+fn k10_operating_excess() -> Vec<u8> {
+    k10_with(&[(operating_word(2, 2), 2_500)])
+}
+
+/// K10's day with excess of each kind: operating 900 in schedule 5, pricing 1 in schedule 2 and 1,000 in schedule 3, effective actual 700.
+fn k10_each_excess() -> Vec<u8> {
+    k10_with(&[
+        (operating_word(5, 1), 2_000),
+        (operating_word(5, 2), 1_900),
+        (actual_word(1), 200_000_000),
+        (actual_word(2), 1_700),
+        (pricing_word(2, 5), 2_001),
+        (pricing_word(3, 5), 3_000),
+    ])
+}
+
+/// Days with the figures of a third implementation, by request.
+const WORKED: [&str; 3] = ["F-2-1", "F-2-2", "F-2-3"];
+
+fn worked(name: &str, ending: &str) -> Vec<u8> {
+    stored(&format!("reference/tests/worked/{name}.{ending}"))
+}
+
 /// The sets of the schedules 2 to 5.
 fn sets_of_reschedules() -> impl Iterator<Item = Vec<usize>> {
     (0..16).map(|set| (2..=5).filter(|s| set >> (s - 2) & 1 == 1).collect())

@@ -7,7 +7,7 @@ use crate::{
 use mewikofu_command::make::make;
 use mewikofu_command::output::Unit;
 use mewikofu_command::show::show;
-use reference::generate::{damaged_day, edge_days, valid_day};
+use reference::generate::{damaged_day, edge_days, excess_day, valid_day};
 use reference::layout::put_word;
 use reference::refusal::day_number;
 use std::collections::BTreeSet;
@@ -32,6 +32,7 @@ fn round_trip(day: &[u8]) {
 #[test]
 fn valid_days() {
     (0..500).map(valid_day).for_each(|day| round_trip(&day));
+    (0..200).map(excess_day).for_each(|day| round_trip(&day));
 }
 
 /// Damaged days with each number that a file can have except 1, whose shape can't be shown.

@@ -4,10 +4,10 @@ use crate::{
     accreditation_words, accredited_schedules, k10_accredited, k10_pulled, run,
     sets_of_reschedules, stored, with_pulled, with_sets,
 };
-use reference::generate::{damaged_day, valid_day};
+use reference::generate::{damaged_day, excess_day, small_day, small_excess_day, valid_day};
 use reference::layout::{book_length, signed, word, MOST_LINES};
 use reference::settle::settle;
-use reference::view::view;
+use reference::view::{view, View};
 use serde_json::Value;
 
 fn rows(table: &[u8]) -> (Vec<String>, Vec<csv::StringRecord>) {
@@ -29,9 +29,10 @@ fn json(text: &[u8]) -> Value {
 #[test]
 fn days_there_and_back() {
     for seed in 0..60 {
-        let day = match seed % 3 {
+        let day = match seed % 4 {
             0 => with_sets(valid_day(seed), seed),
             1 => with_pulled(valid_day(seed), seed),
+            2 => excess_day(seed),
             _ => valid_day(seed),
         };
         for unit in [&[][..], &["--units"]] {
@@ -432,11 +433,21 @@ fn dollars() {
     assert_eq!(cell(&names, &rows[7], "schedule_4_dollars"), "0.0068559");
 }
 
+/// Operating, pricing and actual excess of a view of the reference in a schedule, from 0. The line's JSON has all of it.
+fn excess_of(step: &View, s: usize, json: &Value) -> [i64; 3] {
+    let own = &step.excess;
+    let (operating, pricing, actual) = (own.operating, own.pricing, own.actual);
+    let due = serde_json::json!({ "operating": operating, "pricing": pricing, "actual": actual });
+    assert_eq!(*json, due);
+    [operating[s], pricing[s], actual].map(i64::from)
+}
+
 /// A row for each line, step and schedule, with the reference's figures.
 #[test]
 fn steps() {
-    for seed in 0..12 {
-        let day = reference::generate::small_day(seed);
+    let days = (0..12).flat_map(|seed| [small_day(seed), small_excess_day(seed)]);
+    let mut above = [0; 3];
+    for day in days {
         let (names, rows) = rows(&run(&["steps", "--csv", "--units"], &day).output());
         let value = json(&run(&["steps", "--json"], &day).output());
         for row in &rows {
@@ -494,7 +505,11 @@ fn steps() {
                     i64::from(step.matches[s * (s - 1) / 2 + r])
                 );
             }
-            let other = &value["lines"][k as usize]["steps"][j as usize];
+            let line = &value["lines"][k as usize];
+            let excess = ["operating_excess", "pricing_excess", "actual_excess"].map(number);
+            assert_eq!(excess, excess_of(&step, s, &line["excess"]));
+            (0..3).for_each(|kind| above[kind] += usize::from(excess[kind] > 0));
+            let other = &line["steps"][j as usize];
             assert_eq!(
                 (&other["final"][s], &other["end"]),
                 (&step.finals[s].into(), &step.upper.into())
@@ -505,4 +520,5 @@ fn steps() {
             .sum();
         assert_eq!(rows.len(), 5 * steps);
     }
+    assert!(above.iter().all(|&rows| rows > 10), "{above:?}");
 }

@@ -1,9 +1,12 @@
 //! What `settle`, `steps` and `cut` print, byte for byte.
 
 use crate::draw::EXAMPLES;
-use crate::{k10_pulled, run, stored, with_pulled};
+use crate::{k10_each_excess, k10_pulled, run, stored, with_pulled, worked, WORKED};
 use mewikofu_command::{cut, figures::Figures, settle, steps};
-use reference::generate::{damaged_day, damaged_line, line, small_day, valid_day};
+use reference::generate::{
+    damaged_day, damaged_line, excess_day, excess_line, line, small_day, small_excess_day,
+    valid_day,
+};
 use reference::report::{cut_report, settle_report, steps_report};
 
 fn kept(path: &str) -> String {
@@ -19,6 +22,10 @@ fn kept_reports() {
             kept(&format!("examples/{name}.report"))
         );
     }
+    for name in ["rules", "accreditation", "pulled", "excess", "winter"] {
+        let steps = run(&["steps"], &stored(&format!("examples/{name}.day"))).text();
+        assert_eq!(steps, kept(&format!("examples/{name}.steps")));
+    }
     assert_eq!(
         run(&["steps"], &stored("crates/steps/stdin")).text(),
         kept("crates/steps/stdout")
@@ -29,11 +36,38 @@ fn kept_reports() {
     );
 }
 
+/// Figures of a third implementation, with totals above the greatest break.
+#[test]
+fn worked_days() {
+    for name in WORKED {
+        let day = worked(name, "day");
+        assert!(run(&["settle"], &day).output() == worked(name, "report"));
+        assert!(run(&["steps"], &day).output() == worked(name, "steps"));
+    }
+}
+
+/// A line's excess is its last row, also where it is 0.
+#[test]
+fn excess_rows() {
+    let last = |day: &[u8]| {
+        run(&["steps"], day)
+            .text()
+            .lines()
+            .last()
+            .unwrap()
+            .to_string()
+    };
+    let none = "excess pricing 0 0 0 0 0 operating 0 0 0 0 0 actual 0";
+    assert_eq!(last(&stored("examples/k10.day")), none);
+    let each = "excess pricing 0 1 1000 0 0 operating 0 0 0 0 900 actual 700";
+    assert_eq!(last(&k10_each_excess()), each);
+}
+
 #[test]
 fn reports_are_the_references() {
     for seed in 0..400 {
         let pulled = with_pulled(valid_day(seed), seed);
-        for day in [valid_day(seed), damaged_day(seed), pulled] {
+        for day in [valid_day(seed), damaged_day(seed), excess_day(seed), pulled] {
             let text = match mewikofu::settle(&day) {
                 Ok(book) => settle::report(&book),
                 Err(refusal) => format!("refused {}\n", refusal.number()),
@@ -46,7 +80,8 @@ fn reports_are_the_references() {
 #[test]
 fn steps_are_the_references() {
     for seed in 0..300 {
-        for day in [small_day(seed), with_pulled(small_day(seed), seed)] {
+        let pulled = with_pulled(small_day(seed), seed);
+        for day in [small_day(seed), small_excess_day(seed), pulled] {
             let figures = Figures::new(&day).unwrap();
             assert_eq!(steps::text(&figures), steps_report(&day), "{seed}");
         }
@@ -56,7 +91,7 @@ fn steps_are_the_references() {
 #[test]
 fn cuts_are_the_references() {
     for seed in 0..1_000 {
-        for bytes in [line(seed), damaged_line(seed)] {
+        for bytes in [line(seed), damaged_line(seed), excess_line(seed)] {
             let text = match mewikofu::cut(&bytes) {
                 Ok(answer) => cut::text(&answer),
                 Err(refusal) => format!("refused {}\n", refusal.number()),

@@ -1,6 +1,7 @@
 -- THE CERTIFICATE: demand 3 on one accepted day (document 01, "Matching", "Totals and book"), one field for each clause.
--- It is stated of answers alone: `book` is the lent book as settling leaves it, `view k j` the step view's answer for
--- step j of line k, `cut k` the cutter's for the bytes of line k. Lines, steps and schedules are counted from 0.
+-- It is stated of answers: `book` is the lent book as settling leaves it, `view k j` the step view's answer for step j of line k, `cut k`
+-- the cutter's for the bytes of line k. Two clauses compare them with the definitions on a day whose quantities are within M (Within.antt).
+-- Lines, steps and schedules are counted from 0.
 use Prim.Native.Nat.{ℕ, zero, suc, _+_, _-_, _≤_, _<_}
 use mathlib.Core.Path.{_≡_}
 use mathlib.Core.List.{List}
@@ -9,16 +10,21 @@ use lib.ListN.{getD}
 use lib.Dec.{ltb}
 use lib.IntN.{ℤ, pos}
 use lib.Signed.{ltZ}
-use Rattle.rules.specs.Fold.{sumTo, sumZ, at}
-use Rattle.rules.specs.Layout.{word, lineCount, lineAt}
+use Rattle.rules.specs.Fold.{sumTo, sumZ, five, at}
+use Rattle.rules.specs.Layout.{excessMost, word, lineCount, lineAt}
 use Rattle.rules.specs.Steps.{greatestBreak}
-use Rattle.rules.specs.Quantities.{pricingTotal, operatingTotal}
+use Rattle.rules.specs.Quantities.{pricingTotal, operatingTotal, effectiveActual}
 use Rattle.rules.specs.Matching.{rise, fall}
+use Rattle.rules.specs.Payments.{stepFinal}
+use Rattle.rules.specs.Days.{stepOf}
+use Rattle.rules.specs.Totals.{linePayment}
+use Rattle.rules.specs.Viewing.{figuresOf}
 use Rattle.rules.specs.declared.View.{View}
 use Rattle.rules.specs.declared.Cut.{Cut}
 use Rattle.cutter.specs.Certificate.{endAt, widthAt}
 use Rattle.book_layout.specs.Reading.{signedAt}
 use Rattle.book_layout.specs.Framing.{adjustedAt, paymentAt}
+use Rattle.certificate.specs.Within.{withinBid, dayWithin, withoutExcess}
 
 -- m(r, s) "as the step view answers" it, among its ten matches: those of s follow those of the schedules before it
 abbrev pub matchesBefore : ℕ → ℕ
@@ -53,9 +59,21 @@ pub record Certified (d book : List ℕ) (view : ℕ → ℕ → View) (cut : �
   -- "The cutter's upper ends are the view's", and its widths too
   pub same-end : (k j : ℕ) → k < lineCount d → j < cut k .count → endAt (cut k) j ≡ view k j .end
   pub same-width : (k j : ℕ) → k < lineCount d → j < cut k .count → widthAt (cut k) j ≡ view k j .width
-  -- in each schedule the steps' pricing and operating quantities add up to the line's totals
-  pub pricing-sum : (k s : ℕ) → k < lineCount d → s < 5 → sumTo (cut k .count) (λ j. at (view k j .pricing) s) ≡ pricingTotal (lineAt d k) s
-  pub operating-sum : (k s : ℕ) → k < lineCount d → s < 5 → sumTo (cut k .count) (λ j. at (view k j .operating) s) ≡ operatingTotal (lineAt d k) s
+  -- "steps plus excess" (document 02, F-2): in each schedule the steps' pricing and operating quantities and the excess, which each step's view
+  -- shows, add up to the line's totals; and the steps' parts of the effective actual, with its excess, add up to it
+  pub pricing-sum : (k i s : ℕ) → k < lineCount d → i < cut k .count → s < 5 → sumTo (cut k .count) (λ j. at (view k j .pricing) s) + at (view k i .excess .pricing) s ≡ pricingTotal (lineAt d k) s
+  pub operating-sum : (k i s : ℕ) → k < lineCount d → i < cut k .count → s < 5 → sumTo (cut k .count) (λ j. at (view k j .operating) s) + at (view k i .excess .operating) s ≡ operatingTotal (lineAt d k) s
+  pub actual-sum : (k i : ℕ) → k < lineCount d → i < cut k .count → sumTo (cut k .count) (λ j. view k j .actual) + view k i .excess .actual ≡ effectiveActual (lineAt d k)
+  -- an excess is at most 1,000 MJ, and the effective actual's at most that of operating in schedule 5
+  pub pricing-excess : (k i s : ℕ) → k < lineCount d → i < cut k .count → s < 5 → at (view k i .excess .pricing) s ≤ excessMost
+  pub operating-excess : (k i s : ℕ) → k < lineCount d → i < cut k .count → s < 5 → at (view k i .excess .operating) s ≤ excessMost
+  pub actual-excess : (k i : ℕ) → k < lineCount d → i < cut k .count → view k i .excess .actual ≤ at (view k i .excess .operating) 4
+  -- "never constrained on and never paid": every other figure of the view, C among them, and each payment in the book is that of min(Q, M)
+  -- for each of the line's eleven quantities Q
+  pub figures-within : (k j : ℕ) → k < lineCount d → j < cut k .count → withoutExcess (view k j) ≡ figuresOf (withinBid (stepOf d k j)) (five (λ s. stepFinal (dayWithin d) s k j))
+  pub payments-within : (k s : ℕ) → k < lineCount d → s < 5 → signedAt book (paymentAt k s) ≡ linePayment (dayWithin d) s k
+  -- and in each schedule the steps' C add up to at most the operating total less its excess
+  pub constrained-sum : (k i s : ℕ) → k < lineCount d → i < cut k .count → s < 5 → sumTo (cut k .count) (λ j. at (view k j .constrained) s) + at (view k i .excess .operating) s ≤ operatingTotal (lineAt d k) s
   -- AGINO is at most O, and MSIQ at most E
   pub agino-most : (k j s : ℕ) → k < lineCount d → j < cut k .count → s < 5 → at (view k j .agino) s ≤ at (view k j .operating) s
   pub msiq-most : (k j s : ℕ) → k < lineCount d → j < cut k .count → s < 5 → at (view k j .msiq) s ≤ at (view k j .pricing) s

@@ -7,16 +7,16 @@ use mathlib.Core.Bool.{true, false}
 use lib.ListN.{length, drop}
 use lib.IntN.{pos}
 use lib.Signed.{ltZ}
-use Rattle.rules.specs.Fold.{sumTo, sumZ, at}
-use Rattle.rules.specs.Layout.{word, lineCount, lineAt}
+use Rattle.rules.specs.Fold.{sumTo, sumZ, five, at}
+use Rattle.rules.specs.Layout.{excessMost, word, lineCount, lineAt, operatingTable}
 use Rattle.rules.specs.Steps.{greatestBreak, stepCount}
-use Rattle.rules.specs.Quantities.{pricingTotal, operatingTotal}
+use Rattle.rules.specs.Quantities.{untaken, pricingTotal, operatingTotal, effectiveActual}
 use Rattle.rules.specs.Matching.{rise, fall, matched}
-use Rattle.rules.specs.Payments.{operatingOn, pricingOn, aginoOn, msiqOn, onStep, Day}
+use Rattle.rules.specs.Payments.{operatingOn, pricingOn, aginoOn, msiqOn, onStep, stepFinal, Day}
 use Rattle.rules.specs.Days.{stepOf, settledDay}
 use Rattle.rules.specs.Refusals.{dayFault, bookLength}
 use Rattle.rules.specs.Cutting.{cutOf, cutAnswer}
-use Rattle.rules.specs.Viewing.{viewOf, viewAnswer}
+use Rattle.rules.specs.Viewing.{figuresOf, viewOf, viewAnswer}
 use Rattle.rules.specs.Totals.{linePayment, totals, adjustedTotal}
 use Rattle.rules.specs.Book.{bookOf, bookAfter}
 use Rattle.rules.specs.declared.View.{View}
@@ -29,13 +29,16 @@ use Rattle.book_layout.specs.Reading.{signedAt}
 use Rattle.book_layout.specs.Framing.{paymentAt, book-words, book-adjusted, book-payment, after-settling}
 use Rattle.certificate.specs.Certificate.{Certified, matchIn, matchesMade, matchesWith, adjustedIn, paymentsIn}
 use Rattle.step_quantities.specs.Bounds.{aginoOn-most, msiqOn-most}
-use Rattle.step_quantities.specs.Adding.{stepPricing, stepOperating, pricing-adds-up, operating-adds-up}
+use Rattle.step_quantities.specs.Adding.{RisingEnds, stepPricing, stepOperating, stepActual, stepConstrained, excess-pricing, excess-operating, excess-actual, pricing-adds-up, operating-adds-up, actual-adds-up, constrained-adds-up}
 use Rattle.step_matching.specs.Balance.{matchedWith, matchesIn, falls-matched, rises-bound, rises-balance}
 use Rattle.cutter.specs.Certificate.{endAt, widthAt}
 use Rattle.step_inputs.specs.Ends.{width, line-ends, widths-sum}
+use Rattle.step_inputs.specs.Steps.{actual-most}
 use Rattle.step_inputs.specs.Paid.{DaySized, payment-size, day-bounded, settled-sized}
 use Rattle.day_totals.specs.Sums.{sumZ-same}
 use Rattle.day_totals.specs.Money.{linePayments, adjusted-payments, adjusted-order}
+use Rattle.certificate.specs.Within.{withinBid, dayWithin, withoutExcess}
+use Rattle.certificate.specs.Excess.{view-within, payment-within}
 use Rattle.certificate.specs.Answers.{view-whole, view-past, cut-whole, settle-taken, end-at, width-at, match-at}
 
 module _ (d : List ℕ) (h : dayFault d ≡ 0) where
@@ -69,19 +72,66 @@ module _ (d : List ℕ) (h : dayFault d ≡ 0) where
         let a = accepted-line-at d (accepted-day d h) k l in
         steps-sum k l (λ v. v .width) (width (lineAt d k)) (λ j. refl) ∙ widths-sum (lineAt d k) a
 
-    pricing-sum : (k s : ℕ) → k < lineCount d → s < 5 → sumTo (cut k .count) (λ j. at (view k j .pricing) s) ≡ pricingTotal (lineAt d k) s
-    unfolding viewOf stepPricing
-    pricing-sum k s l g =
-        let a = accepted-line-at d (accepted-day d h) k l in
-        steps-sum k l (λ v. at (v .pricing) s) (stepPricing d k s) (λ j. at-five (pricingOn (stepOf d k j)) 0 s g)
-        ∙ pricing-adds-up d k s g (line-ends (lineAt d k) a) (a .pricing-most s g)
+    -- the ends of line k
+    ends-at : (k : ℕ) → k < lineCount d → RisingEnds (lineAt d k)
+    ends-at k l = line-ends (lineAt d k) (accepted-line-at d (accepted-day d h) k l)
 
-    operating-sum : (k s : ℕ) → k < lineCount d → s < 5 → sumTo (cut k .count) (λ j. at (view k j .operating) s) ≡ operatingTotal (lineAt d k) s
+    -- the excess that the view of any step shows is the line's
+    shown-pricing : (k i s : ℕ) → k < lineCount d → i < cut k .count → s < 5 → at (view k i .excess .pricing) s ≡ untaken (pricingTotal (lineAt d k) s) (greatestBreak (lineAt d k))
+    unfolding viewOf
+    shown-pricing k i s l g b = rw (view-is k i l g) (excess-pricing d k (ends-at k l) i s b)
+
+    shown-operating : (k i s : ℕ) → k < lineCount d → i < cut k .count → s < 5 → at (view k i .excess .operating) s ≡ untaken (operatingTotal (lineAt d k) s) (greatestBreak (lineAt d k))
+    unfolding viewOf
+    shown-operating k i s l g b = rw (view-is k i l g) (excess-operating d k (ends-at k l) i s b)
+
+    shown-actual : (k i : ℕ) → k < lineCount d → i < cut k .count → view k i .excess .actual ≡ untaken (effectiveActual (lineAt d k)) (greatestBreak (lineAt d k))
+    unfolding viewOf
+    shown-actual k i l g = rw (view-is k i l g) (excess-actual d k (ends-at k l) i)
+
+    pricing-sum : (k i s : ℕ) → k < lineCount d → i < cut k .count → s < 5 → sumTo (cut k .count) (λ j. at (view k j .pricing) s) + at (view k i .excess .pricing) s ≡ pricingTotal (lineAt d k) s
+    unfolding viewOf stepPricing
+    pricing-sum k i s l g b =
+        let e = steps-sum k l (λ v. at (v .pricing) s) (stepPricing d k s) (λ j. at-five (pricingOn (stepOf d k j)) 0 s b) in
+        rw (shown-pricing k i s l g b, e) (pricing-adds-up d k (ends-at k l) s b)
+
+    operating-sum : (k i s : ℕ) → k < lineCount d → i < cut k .count → s < 5 → sumTo (cut k .count) (λ j. at (view k j .operating) s) + at (view k i .excess .operating) s ≡ operatingTotal (lineAt d k) s
     unfolding viewOf stepOperating
-    operating-sum k s l g =
+    operating-sum k i s l g b =
+        let e = steps-sum k l (λ v. at (v .operating) s) (stepOperating d k s) (λ j. at-five (operatingOn (stepOf d k j)) 0 s b) in
+        rw (shown-operating k i s l g b, e) (operating-adds-up d k (ends-at k l) s b)
+
+    actual-sum : (k i : ℕ) → k < lineCount d → i < cut k .count → sumTo (cut k .count) (λ j. view k j .actual) + view k i .excess .actual ≡ effectiveActual (lineAt d k)
+    unfolding viewOf stepActual
+    actual-sum k i l g =
+        let e = steps-sum k l (λ v. v .actual) (stepActual d k) (λ j. refl) in
+        rw (shown-actual k i l g, e) (actual-adds-up d k (ends-at k l))
+
+    pricing-excess : (k i s : ℕ) → k < lineCount d → i < cut k .count → s < 5 → at (view k i .excess .pricing) s ≤ excessMost
+    unfolding untaken
+    pricing-excess k i s l g b =
         let a = accepted-line-at d (accepted-day d h) k l in
-        steps-sum k l (λ v. at (v .operating) s) (stepOperating d k s) (λ j. at-five (operatingOn (stepOf d k j)) 0 s g)
-        ∙ operating-adds-up d k s g (line-ends (lineAt d k) a) (a .operating-most s g)
+        omega (arith, shown-pricing k i s l g b, a .pricing-most s b)
+
+    operating-excess : (k i s : ℕ) → k < lineCount d → i < cut k .count → s < 5 → at (view k i .excess .operating) s ≤ excessMost
+    unfolding untaken
+    operating-excess k i s l g b =
+        let a = accepted-line-at d (accepted-day d h) k l in
+        omega (arith, shown-operating k i s l g b, a .operating-most s b)
+
+    actual-excess : (k i : ℕ) → k < lineCount d → i < cut k .count → view k i .excess .actual ≤ at (view k i .excess .operating) 4
+    unfolding untaken
+    actual-excess k i l g =
+        omega (arith, shown-actual k i l g, shown-operating k i 4 l g (omega arith), actual-most (operatingTable (lineAt d k)) (lineAt d k))
+
+    constrained-sum : (k i s : ℕ) → k < lineCount d → i < cut k .count → s < 5 → sumTo (cut k .count) (λ j. at (view k j .constrained) s) + at (view k i .excess .operating) s ≤ operatingTotal (lineAt d k) s
+    unfolding viewOf stepConstrained
+    constrained-sum k i s l g b =
+        let e = steps-sum k l (λ v. at (v .constrained) s) (stepConstrained d k s) (λ j. refl) in
+        rw (shown-operating k i s l g b, e) (constrained-adds-up d k (ends-at k l) s b)
+
+    figures-within : (k j : ℕ) → k < lineCount d → j < cut k .count → withoutExcess (view k j) ≡ figuresOf (withinBid (stepOf d k j)) (five (λ s. stepFinal (dayWithin d) s k j))
+    figures-within k j l g = ap withoutExcess (view-is k j l g) ∙ view-within d (accepted-day d h) k j l (rw (count-is k l) at g)
 
     same-end : (k j : ℕ) → k < lineCount d → j < cut k .count → endAt (cut k) j ≡ view k j .end
     unfolding viewOf stepOf
@@ -144,11 +194,14 @@ module _ (y : Day) (z : DaySized y) (rest : List ℕ) where
       let m = adjusted-size (totals y) (day-bounded y z) s l in
       book-adjusted y rest s l (mag-size (adjustedTotal y s) (omega arith))
 
+  payment-is : (k s : ℕ) → k < y .lines → s < 5 → signedAt book (paymentAt k s) ≡ linePayment y s k
+  payment-is k s l g = book-payment y rest k s l g (mag-size (linePayment y s k) (omega (arith, payment-size y z k l s g)))
+
   payments-is : (k : ℕ) → k < y .lines → paymentsIn book k ≡ linePayments y k
   unfolding paymentsIn linePayments
   payments-is k l =
       sumZ-same 5 (λ s. signedAt book (paymentAt k s)) (λ s. linePayment y s k)
-      (λ s g. book-payment y rest k s l g (mag-size (linePayment y s k) (omega (arith, payment-size y z k l s g))))
+      (λ s g. payment-is k s l g)
 
   lines-is : word book 0 ≡ y .lines
   lines-is = book-words y rest .word0 (omega (arith, z .lines))
@@ -186,6 +239,13 @@ certified d b book view cut h l settled viewed cutted =
       same-width = same-width d h view cut vs cs;
       pricing-sum = pricing-sum d h view cut vs cs;
       operating-sum = operating-sum d h view cut vs cs;
+      actual-sum = actual-sum d h view cut vs cs;
+      pricing-excess = pricing-excess d h view cut vs cs;
+      operating-excess = operating-excess d h view cut vs cs;
+      actual-excess = actual-excess d h view cut vs cs;
+      figures-within = figures-within d h view cut vs cs;
+      payments-within = λ k s g i. payment-is y z rest k s g i ∙ sym (payment-within d (accepted-day d h) k s g);
+      constrained-sum = constrained-sum d h view cut vs cs;
       agino-most = agino-most d h view cut vs cs;
       msiq-most = msiq-most d h view cut vs cs;
       falls = falls d h view cut vs cs;

@@ -1,16 +1,15 @@
 -- The certificate's clauses `falls`, `rises` and `balance` on one answer of the view.
 use Prim.Native.Nat.{ℕ, suc, _+_, _≤_, _<_}
 use native.Mathlib.Omega.{arith}
-use mathlib.Core.Path.{_≡_, sym, _∙_, ap}
+use mathlib.Core.Path.{_≡_}
 use mathlib.Core.List.{List}
 use Rattle.rules.specs.Fold.{sumTo, before, at}
-use Rattle.rules.specs.Layout.{lineCount, lineAt}
 use Rattle.rules.specs.Matching.{earlier, rise, fall}
 use Rattle.rules.specs.Viewing.{viewAnswer}
 use Rattle.rules.specs.declared.View.{View}
 use Rattle.certificate.specs.Certificate.{matchIn, matchesMade, matchesWith}
 use Rattle.step_balance.specs.Balance.{FallsMatched, RisesBound, Balanced}
-use Rattle.certificate_calls.specs.Calls.{lineCut, Viewed, viewed, day-certified, count-there}
+use Rattle.certificate_calls.specs.Calls.{Viewed, viewed, day-certified, count-there}
 
 -- of a step that the view takes
 module _ (d : List ℕ) (k j : ℕ) (v : View) (e : v ≡ viewAnswer d k j) (z : v .number ≡ 0) where

@@ -18,7 +18,8 @@ use Rattle.rules.specs.Worked.Base2.{base2Words, base2Day}
 use Rattle.rules.specs.Worked.Reschedule.{rescheduleWords, rescheduleDay}
 use Rattle.rules.specs.Worked.Lemma.{base-2-accepted}
 use Rattle.rules.specs.Worked.Pulled0.{pulled0Words, pulled0Day}
-use Rattle.rules.specs.Worked.Later.{reschedule-accepted, pulled-0-accepted}
+use Rattle.rules.specs.Worked.Excess0.{excess0Words, excess0Day}
+use Rattle.rules.specs.Worked.HandDays.{reschedule-accepted, pulled-0-accepted, excess-0-accepted}
 use Rattle.laws.specs.Folds.{sum-same}
 use Rattle.cutter.specs.Certificate.{widthAt}
 use Rattle.certificate.specs.Certificate.{Certified}
@@ -55,6 +56,13 @@ unfolding pulled0Words pulled0Day
 pulled-certified b l =
     certified pulled0Day b (bookAfter pulled0Day b) (viewAnswer pulled0Day) (λ k. cutAnswer (lineAt pulled0Day k))
     pulled-0-accepted l refl (λ k j. refl) (λ k. refl)
+
+-- and one with totals and an effective actual slightly over the bid (document 02, F-2; `excess-0` in rules)
+pub excess-certified : (b : List ℕ) → 264 ≤ length b → Certified excess0Day (bookAfter excess0Day b) (viewAnswer excess0Day) (λ k. cutAnswer (lineAt excess0Day k))
+unfolding excess0Words excess0Day
+excess-certified b l =
+    certified excess0Day b (bookAfter excess0Day b) (viewAnswer excess0Day) (λ k. cutAnswer (lineAt excess0Day k))
+    excess-0-accepted l refl (λ k j. refl) (λ k. refl)
 
 -- the cutter alone covers a line: its own widths add up to the greatest break
 pub cutter-covers : (d book : List ℕ) (view : ℕ → ℕ → View) (cut : ℕ → Cut) → Certified d book view cut → (k : ℕ) → k < lineCount d → sumTo (cut k .count) (widthAt (cut k)) ≡ greatestBreak (lineAt d k)

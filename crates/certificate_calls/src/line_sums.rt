@@ -1,5 +1,5 @@
-// A line's widths and quantities added up over its steps, as the step view answers them: the certificate's clauses on quantities, on real
-// calls. The contract says what the sums are: M, and the line's totals.
+// A line's widths and quantities added up over its steps, with the excess that no step took, as the step view answers them: the
+// certificate's clauses on quantities, on real calls. The contract says what the sums are: M, the line's totals and its effective actual.
 use cutter::cut;
 use day_header::line_part;
 use rules::View;
@@ -7,13 +7,15 @@ use view::view;
 ghost use mathlib.Core.Path.{_≡_};
 ghost use Prim.Native.Nat.{ℕ, _+_, _<_, _^_};
 ghost use Rattle.rules.specs.Fold.{five, at};
-ghost use Rattle.certificate_calls.specs.Lines.{sumsOf, sumsRefused, lineSums, addedIn, sumsWith, Addable, LineCounted};
+ghost use Rattle.rules.specs.Viewing.{viewAnswer};
+ghost use Rattle.certificate_calls.specs.Lines.{sumsOf, sumsRefused, lineSums, addedIn, sumsExcess, sumsWith, Addable, LineCounted};
 
-// What the steps of one line add up to. Arrays are by schedule.
+// What the steps of one line add up to, quantities with their excess. Arrays are by schedule.
 pub struct LineSums {
     // 0, or the refusal
     pub number: u32,
     pub width: u32,
+    pub actual: u32,
     pub pricing: [u32; 5],
     pub operating: [u32; 5],
 }
@@ -39,8 +41,25 @@ fn refused(number: u32) -> LineSums
     LineSums {
         number,
         width: 0,
+        actual: 0,
         pricing: [0u32; 5],
         operating: [0u32; 5],
+    }
+}
+
+// The sums before any step: the excess.
+fn with_excess(v: View) -> LineSums
+    ensures { λ r. ⌜ r ≡ sumsExcess v ⌝ }
+{
+    let excess = v.excess;
+    let pricing = excess.pricing;
+    let operating = excess.operating;
+    LineSums {
+        number: 0,
+        width: 0,
+        actual: excess.actual,
+        pricing,
+        operating,
     }
 }
 
@@ -56,17 +75,18 @@ fn with_step(a: LineSums, v: View) -> LineSums
     LineSums {
         number: a.number,
         width: a.width + v.width,
+        actual: a.actual + v.actual,
         pricing: added(pricing, priced),
         operating: added(operating, operated),
     }
 }
 
-// The sums over all steps of a line. The loop maintains that those below step j are added up.
-fn all_steps(day: &[u8], line: usize, count: usize) -> LineSums
-    requires { ⌜ LineCounted (now day) line count ⌝ }
+// The sums over all steps of a line, from the view of its first. The loop maintains that those below step j are added up.
+fn all_steps(day: &[u8], line: usize, count: usize, first: View) -> LineSums
+    requires { ⌜ (LineCounted (now day) line count) × (first ≡ viewAnswer (now day) line 0) ⌝ }
     ensures { λ r. ⌜ r ≡ sumsOf (now (day .entry)) line ⌝ }
 {
-    let mut sums = refused(0);
+    let mut sums = with_excess(first);
     let mut j = 0;
     while j < count {
         sums = with_step(sums, view(day, line, j));
@@ -84,5 +104,5 @@ pub fn line_sums(day: &[u8], line: usize) -> LineSums
         return refused(first.number);
     }
     let c = cut(line_part(day, line));
-    all_steps(day, line, c.count as usize)
+    all_steps(day, line, c.count as usize, first)
 }

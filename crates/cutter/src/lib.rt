@@ -14,12 +14,13 @@ fn refused(number: u32) -> Cut
     ensures { λ r. ⌜ r ≡ cutRefused number ⌝ }
 {
     Cut {
+        flags: [0u64; 5],
         number,
         count: 0,
+        missing: [0u32; 5],
         ends: [0u32; 56],
         prices: [0u32; 280],
-        flags: [0u64; 5],
-        missing: [0u32; 5],
+        reserved: 0,
     }
 }
 

@@ -61,11 +61,12 @@ pub fn steps(line: &[u8]) -> Cut
     }
     let flags = flag_words(n, missing);
     Cut {
+        flags,
         number: 0,
         count: n as u32,
+        missing: counted(flags),
         ends,
         prices,
-        flags,
-        missing: counted(flags),
+        reserved: 0,
     }
 }

@@ -8,7 +8,7 @@ use lib.ListN.{length}
 use lib.Dec.{eqb, ltb, leb}
 use borrow.Author.Tests.{ltb-false, lt-ltb, leb-false, eq-eqb, eqb-true, eqb-false, not-false}
 use Rattle.rules.specs.Fold.{refuse, first, before}
-use Rattle.rules.specs.Layout.{quantityMost, priceMost, lineCount, fileLength}
+use Rattle.rules.specs.Layout.{quantityMost, priceMost, excessMost, lineCount, fileLength}
 use Rattle.rules.specs.Layout.{marketPrice, capMark, priceCap, clawback, lineAt, side, accreditation, hedge, withdrawal}
 use Rattle.rules.specs.Layout.{bidCount, bidBreak, bidPrice, operatingTable, actualEntry}
 use Rattle.rules.specs.Steps.{greatestBreak}
@@ -88,8 +88,8 @@ pub record AcceptedWith (t : List (List ℕ)) (w : List ℕ) : Type 0 where
   pub bids : (s : ℕ) → s < 5 → AcceptedBid w s
   pub hedge-most : hedge w ≤ greatestBreak w
   pub hedge-withdrawal : withdrawal (side w) ≡ true → hedge w ≡ 0
-  pub pricing-most : (s : ℕ) → s < 5 → pricingTotal w s ≤ greatestBreak w
-  pub operating-most : (s : ℕ) → s < 5 → tableTotal t s ≤ greatestBreak w
+  pub pricing-most : (s : ℕ) → s < 5 → pricingTotal w s ≤ greatestBreak w + excessMost
+  pub operating-most : (s : ℕ) → s < 5 → tableTotal t s ≤ greatestBreak w + excessMost
   pub actual-most : (i : ℕ) → i < 5 → actualEntry w i ≤ 200000000
 
 -- with the line's own
@@ -97,7 +97,7 @@ abbrev pub AcceptedLine : List ℕ → Type 0
 AcceptedLine w = AcceptedWith (operatingTable w) w
 
 total-both : (t : List (List ℕ)) (w : List ℕ) (s : ℕ) → totalFault t w s ≡ 0
-    → Both (refuse 12 (ltb (greatestBreak w) (pricingTotal w s))) (refuse 12 (ltb (greatestBreak w) (tableTotal t s)))
+    → Both (refuse 12 (ltb (greatestBreak w + excessMost) (pricingTotal w s))) (refuse 12 (ltb (greatestBreak w + excessMost) (tableTotal t s)))
 unfolding totalFault
 total-both t w s e = orElse-both _ _ e
 
@@ -135,6 +135,11 @@ accepted-with t w e =
       operating-most = λ s h. at-most 11 _ _ (total-both t w s (first-at _ 5 (b5 .left) s h) .right);
       actual-most = λ i h. actual-is w i (first-at _ 5 (b5 .right) i h);
     }
+
+-- its bids alone
+pub accepted-bids : (t : List (List ℕ)) (w : List ℕ) → lineFaultWith t w ≡ 0 → first (bidFault w) 5 ≡ 0
+unfolding lineFaultWith
+accepted-bids t w e = orElse-both _ _ (orElse-both _ _ e .right) .left
 
 pub accepted-line : (w : List ℕ) → lineFault w ≡ 0 → AcceptedLine w
 unfolding lineFault

@@ -5,7 +5,7 @@ use mathlib.Core.Path.{_≡_, sym, _∙_}
 use mathlib.Core.List.{List}
 use borrow.Author.Tests.{lt-ltb, le-ltb, eq-eqb, ne-eqb}
 use Rattle.rules.specs.Fold.{first, five}
-use Rattle.rules.specs.Layout.{word, side, hedge}
+use Rattle.rules.specs.Layout.{excessMost, word, side, hedge}
 use Rattle.rules.specs.Steps.{greatestBreak}
 use Rattle.rules.specs.Quantities.{pricingTotal, tableTotal}
 use Rattle.rules.specs.Refusals.{totalFault, actualFault}
@@ -41,7 +41,7 @@ module _ (w : List ℕ) (m h : ℕ) (hedge-is : h ≡ hedge w) where
         (none-at 11 _ (rw (ne-eqb (side w) 1 (λ e. n (sd ∙ e)))))
 
 -- refusal 12, with M and the totals that were worked out
-pub totals-are : (t : List (List ℕ)) (w : List ℕ) (m : ℕ) (p o : List ℕ) → m ≡ greatestBreak w → p ≡ five (pricingTotal w) → o ≡ five (tableTotal t)
+pub totals-are : (t : List (List ℕ)) (w : List ℕ) (m : ℕ) (p o : List ℕ) → m ≡ greatestBreak w + excessMost → p ≡ five (pricingTotal w) → o ≡ five (tableTotal t)
     → first (totalsFault m p o) 5 ≡ first (totalFault t w) 5
 unfolding totalsFault totalFault
 totals-are t w m p o e a b = first-same 5 (totalsFault m p o) (totalFault t w) same

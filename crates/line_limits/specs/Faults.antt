@@ -12,7 +12,7 @@ use Rattle.rules.specs.Refusals.{totalFault, actualFault}
 unfoldable pub hedgeFault : List ℕ → ℕ → ℕ
 hedgeFault w m = refuse 11 (ltb m (hedge w)) orElse refuse 11 (withdrawal (side w) && not (eqb (hedge w) 0))
 
--- refusal 12 in schedule s, with M and the two rows of totals
+-- refusal 12 in schedule s, with the most that a total may be and the two rows of totals
 unfoldable pub totalsFault : ℕ → List ℕ → List ℕ → ℕ → ℕ
 totalsFault m p o s = refuse 12 (ltb m (at p s)) orElse refuse 12 (ltb m (at o s))
 

@@ -1,5 +1,5 @@
-// Refusals 11 to 13, which hold a line's hedge, totals and actuals to M and to the quantity limit.
-mod greatest_break;
+// Refusals 11 to 13, which hold a line's hedge to M, its totals to what they may have above M, and its actuals to the quantity limit.
+pub mod greatest_break;
 
 use crate::greatest_break::greatest_break;
 use layout::fields::actual_place;
@@ -11,10 +11,15 @@ use numbers::wide;
 use units::Quantity;
 use units::quantity_refusal;
 ghost use mathlib.Core.Path.{_≡_};
+ghost use Prim.Native.Nat.{_+_};
 ghost use lib.ListN.{length};
 ghost use Rattle.rules.specs.Fold.{first};
+ghost use Rattle.rules.specs.Layout.{excessMost};
 ghost use Rattle.rules.specs.Refusals.{bidFault, actualFault};
 ghost use Rattle.line_limits.specs.Faults.{hedgeFault, totalsFault, limitsFault};
+
+// What a total may have above M (document 02, F-2).
+const EXCESS_MOST: u64 = 1000;
 
 // Refusal 11, with M.
 pub fn hedge_number(line: &[u8], most: u32) -> u32
@@ -33,7 +38,15 @@ pub fn hedge_number(line: &[u8], most: u32) -> u32
     0
 }
 
-// Refusal 12, with M and the two rows of totals. The loop maintains that no total of a schedule before s is above M.
+// The most that a total may be, with M.
+fn total_most(most: u32) -> u64
+    ensures { λ r. ⌜ r ≡ most + excessMost ⌝ }
+{
+    wide(most) + EXCESS_MOST
+}
+
+// Refusal 12, with the most that a total may be and the two rows of totals. The loop maintains that no total of a schedule before s is
+// above it.
 pub fn totals_number(most: u64, pricing: [u64; 5], operating: [u64; 5]) -> u32
     ensures { λ r. ⌜ r ≡ first (totalsFault most pricing operating) 5 ⌝ }
 {
@@ -76,7 +89,11 @@ pub fn limits_number(line: &[u8], table: [[u32; 5]; 5]) -> u32
     if hedging != 0 {
         return hedging;
     }
-    let totals = totals_number(wide(most), pricing_totals(line), operating_totals(table));
+    let totals = totals_number(
+        total_most(most),
+        pricing_totals(line),
+        operating_totals(table),
+    );
     if totals != 0 {
         return totals;
     }

@@ -36,27 +36,30 @@ missing w s = sumOf (flags w s)
 unfoldable pub priceRow : List ℕ → ℕ → List ℕ
 priceRow w s = padded stepPlaces (prices w s)
 
+-- `reserved` is none of document 01's answers: it fills the answer's last bytes and is always 0
 unfoldable pub cutOf : List ℕ → Cut
 cutOf w =
     record {
+      flags = five (flagWord w);
       number = 0;
       count = stepCount w;
+      missing = five (missing w);
       ends = padded stepPlaces (ends w);
       prices = joined 5 (priceRow w);
-      flags = five (flagWord w);
-      missing = five (missing w);
+      reserved = 0;
     }
 
 -- "A refused cutter or view answers the number and zeros"
 unfoldable pub cutRefused : ℕ → Cut
 cutRefused n =
     record {
+      flags = replicate 5 0;
       number = n;
       count = 0;
+      missing = replicate 5 0;
       ends = replicate stepPlaces 0;
       prices = replicate 280 0;
-      flags = replicate 5 0;
-      missing = replicate 5 0;
+      reserved = 0;
     }
 
 -- "It answers the step count, upper ends, uncapped prices and, per schedule, a 64-bit word of flags .. with how many are set"

@@ -3,7 +3,7 @@ use Prim.Native.Nat.{ℕ}
 use mathlib.Core.List.{List}
 use Rattle.rules.specs.Fold.{five}
 use Rattle.rules.specs.Layout.{lineCount, marketPrice, clawback, lineAt, participant, point, side}
-use Rattle.rules.specs.Steps.{stepCount, upperEnd, lowerEnd, price, flag, capped, paid}
+use Rattle.rules.specs.Steps.{greatestBreak, stepCount, upperEnd, lowerEnd, price, flag, capped, paid}
 use Rattle.rules.specs.Quantities.{pricingTotal, operatingTotal, effectiveActual}
 use Rattle.rules.specs.declared.Step.{Step}
 use Rattle.rules.specs.Payments.{bit, Day}
@@ -22,6 +22,7 @@ stepOf d k j =
       pricing = five (pricingTotal (lineAt d k));
       operating = five (operatingTotal (lineAt d k));
       actual = effectiveActual (lineAt d k);
+      most = greatestBreak (lineAt d k);
     }
 
 -- the lines of the file d, with the steps x

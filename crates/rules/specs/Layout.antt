@@ -13,6 +13,10 @@ quantityMost = 200000000
 abbrev pub priceMost : ℕ
 priceMost = 10000000
 
+-- "Pricing and operating totals may exceed M by up to 1,000 MJ" (document 02, F-2)
+abbrev pub excessMost : ℕ
+excessMost = 1000
+
 -- "The file is 32-bit unsigned little-endian words": the word whose first byte is byte i
 abbrev pub word : List ℕ → ℕ → ℕ
 word b i = getD b i 0 + getD b (i + 1) 0 * 256 + getD b (i + 2) 0 * 65536 + getD b (i + 3) 0 * 16777216

@@ -2,13 +2,15 @@
 use Prim.Native.Nat.{ℕ, _*_, _-_, min, max}
 use mathlib.Core.List.{List}
 use mathlib.Core.Bool.{Bool, false, not, cond, _&&_, _||_}
+use lib.ListN.{replicate}
 use lib.Dec.{eqb}
 use lib.IntN.{ℤ, pos, negℤ, subℕ, _-ℤ_, _*ℤ_}
 use lib.Signed.{ltZ, leZ, nonNeg, quotZ}
 use Rattle.rules.specs.Fold.{sumTo, sumZ, someTo, eqbZ, five, at}
 use Rattle.rules.specs.Layout.{withdrawal}
-use Rattle.rules.specs.Quantities.{allocated, agino, msiq, constrained}
+use Rattle.rules.specs.Quantities.{allocated, untaken, agino, msiq, constrained}
 use Rattle.rules.specs.declared.Step.{Step}
+use Rattle.rules.specs.declared.Excess.{Excess}
 use Rattle.rules.specs.Matching.{earlier, rise, fall, matched}
 
 -- "On a step, O(s) is operating, E(s) pricing, A effective actual" (document 01, "Quantities")
@@ -20,6 +22,18 @@ pricingOn x s = allocated (at (x .pricing) s) (x .lower) (x .upper)
 
 unfoldable pub actualOn : Step → ℕ
 actualOn x = allocated (x .actual) (x .lower) (x .upper)
+
+-- "this excess for pricing, operating and effective actual" (document 02, F-2): the line's, so the same on each of its steps
+unfoldable pub excessOf : Step → Excess
+excessOf x =
+    record {
+      operating = five (λ s. untaken (at (x .operating) s) (x .most));
+      pricing = five (λ s. untaken (at (x .pricing) s) (x .most));
+      actual = untaken (x .actual) (x .most);
+    }
+
+unfoldable pub noExcess : Excess
+noExcess = record { operating = replicate 5 0; pricing = replicate 5 0; actual = 0 }
 
 unfoldable pub aginoOn : Step → ℕ → ℕ
 aginoOn x s = agino (five (operatingOn x)) (actualOn x) s
@@ -35,8 +49,8 @@ unfoldable pub onStep : Step → List ℕ
 onStep x = five (constrainedOn x)
 
 -- "max(0, price - market price), reversed for withdrawals"
-unfoldable pub excess : ℕ → ℕ → ℕ → ℕ
-excess sd p m = cond (withdrawal sd) (m - p) (p - m)
+unfoldable pub beyondBy : ℕ → ℕ → ℕ → ℕ
+beyondBy sd p m = cond (withdrawal sd) (m - p) (p - m)
 
 -- "lesser of the prices in r and s .. Withdrawals: .. the greater"
 unfoldable pub milder : ℕ → ℕ → ℕ → ℕ
@@ -44,11 +58,11 @@ milder sd p q = cond (withdrawal sd) (max p q) (min p q)
 
 -- "Rate R(s) = max(0, price - market price), reversed for withdrawals"
 unfoldable pub rate : Step → ℕ → ℕ
-rate x s = excess (x .side) (at (x .price) s) (at (x .market) s)
+rate x s = beyondBy (x .side) (at (x .price) s) (at (x .market) s)
 
 -- "max(0, lesser of the prices in r and s, less market price of s). Withdrawals: market price less the greater"
 unfoldable pub revisedRate : Step → ℕ → ℕ → ℕ
-revisedRate x s r = excess (x .side) (milder (x .side) (at (x .price) r) (at (x .price) s)) (at (x .market) s)
+revisedRate x s r = beyondBy (x .side) (milder (x .side) (at (x .price) r) (at (x .price) s)) (at (x .market) s)
 
 -- 1 for a test that holds
 abbrev pub bit : Bool → ℕ

@@ -31,6 +31,10 @@ effectiveActual w = tableActual (operatingTable w) w
 unfoldable pub allocated : ℕ → ℕ → ℕ → ℕ
 allocated q l u = min q u - l
 
+-- "Allocation now also hands back what no step took" (document 02, F-2): a line's steps end at M, so of Q that is max(0, Q - M)
+unfoldable pub untaken : ℕ → ℕ → ℕ
+untaken q m = q - m
+
 -- min(O(s)..O(s + m))
 unfoldable pub leastFrom : List ℕ → ℕ → ℕ → ℕ
 leastFrom o s zero = at o s

@@ -5,7 +5,7 @@ use mathlib.Core.Bool.{Bool, not, cond, _&&_}
 use lib.ListN.{length}
 use lib.Dec.{eqb, ltb, leb}
 use Rattle.rules.specs.Fold.{refuse, _orElse_, first, before}
-use Rattle.rules.specs.Layout.{quantityMost, priceMost, lineCount, marketOffset, linesOffset, lengthWord, mostLines, marketAt, linesAt, lineBytes, fileLength}
+use Rattle.rules.specs.Layout.{quantityMost, priceMost, excessMost, lineCount, marketOffset, linesOffset, lengthWord, mostLines, marketAt, linesAt, lineBytes, fileLength}
 use Rattle.rules.specs.Layout.{marketPrice, capMark, priceCap, clawback, lineAt, participant, point, side, accreditation, hedge, withdrawal}
 use Rattle.rules.specs.Layout.{bidSlots, bidCount, bidBreak, bidPrice, operatingTable, actualEntry}
 use Rattle.rules.specs.Steps.{greatestBreak, stepCount}
@@ -73,11 +73,12 @@ bidFault w s =
     orElse first (priceFault w s) (bidCount w s)
     orElse first (unusedFault w s) (bidSlots - bidCount w s)
 
--- each line: "12: a pricing or operating total above M", with a table of operating quantities
+-- each line: "12: a pricing or operating total above M"; "Refusal 12 starts at M + 1,001" (document 02, F-2). With a table of operating
+-- quantities
 unfoldable pub totalFault : List (List ℕ) → List ℕ → ℕ → ℕ
 totalFault t w s =
-    refuse 12 (ltb (greatestBreak w) (pricingTotal w s))
-    orElse refuse 12 (ltb (greatestBreak w) (tableTotal t s))
+    refuse 12 (ltb (greatestBreak w + excessMost) (pricingTotal w s))
+    orElse refuse 12 (ltb (greatestBreak w + excessMost) (tableTotal t s))
 
 -- each line: "13: an actual above the quantity limit"
 unfoldable pub actualFault : List ℕ → ℕ → ℕ

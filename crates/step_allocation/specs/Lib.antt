@@ -1,2 +1,2 @@
--- The totals of five schedules on one step.
+-- What allocation answers.
 pub mod Rows

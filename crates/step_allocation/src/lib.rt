@@ -1,52 +1,66 @@
-// What a step takes of a line's totals (document 01, "Quantities").
+// What a step takes of a line's totals, and what no step takes of them (document 01, "Quantities"; document 02, F-2).
 use numbers::lesser;
 use numbers::saturating_sub;
 use rules::Step;
 ghost use mathlib.Core.Path.{_≡_};
-ghost use Rattle.rules.specs.Fold.{five};
-ghost use Rattle.rules.specs.Quantities as rule;
-ghost use Rattle.rules.specs.Payments as paper;
-ghost use Rattle.step_allocation.specs.Rows.{allocatedIn};
+ghost use Rattle.step_allocation.specs.Rows.{allocation, allocations, operatingAllocations, pricingAllocations, actualAllocation};
 
-// q on the step from l to u
-pub fn allocate(q: u32, l: u32, u: u32) -> u32
-    ensures { λ r. ⌜ r ≡ rule.allocated q l u ⌝ }
-{
-    saturating_sub(lesser(q, u), l)
+// A quantity allocated to a step: what the step takes, and what no step of the line takes.
+pub struct Allocation {
+    pub taken: u32,
+    pub excess: u32,
 }
 
-// The totals q of the five schedules on the step from l to u.
-pub fn allocate_all(q: [u32; 5], l: u32, u: u32) -> [u32; 5]
-    ensures { λ r. ⌜ r ≡ five (allocatedIn q l u) ⌝ }
-{
-    [
-        allocate(q[0], l, u),
-        allocate(q[1], l, u),
-        allocate(q[2], l, u),
-        allocate(q[3], l, u),
-        allocate(q[4], l, u),
-    ]
+// The same for the five schedules.
+pub struct Allocations {
+    pub taken: [u32; 5],
+    pub excess: [u32; 5],
 }
 
-// O
-pub fn operating_on(x: Step) -> [u32; 5]
-    ensures { λ r. ⌜ r ≡ five (paper.operatingOn x) ⌝ }
+// q on the step from l to u of a line whose steps end at `most`
+pub fn allocate(q: u32, l: u32, u: u32, most: u32) -> Allocation
+    ensures { λ r. ⌜ r ≡ allocation q l u most ⌝ }
+{
+    Allocation {
+        taken: saturating_sub(lesser(q, u), l),
+        excess: saturating_sub(q, most),
+    }
+}
+
+// The totals q of the five schedules on that step.
+pub fn allocate_all(q: [u32; 5], l: u32, u: u32, most: u32) -> Allocations
+    ensures { λ r. ⌜ r ≡ allocations q l u most ⌝ }
+{
+    let a = allocate(q[0], l, u, most);
+    let b = allocate(q[1], l, u, most);
+    let c = allocate(q[2], l, u, most);
+    let d = allocate(q[3], l, u, most);
+    let e = allocate(q[4], l, u, most);
+    Allocations {
+        taken: [a.taken, b.taken, c.taken, d.taken, e.taken],
+        excess: [a.excess, b.excess, c.excess, d.excess, e.excess],
+    }
+}
+
+// O, and what no step takes
+pub fn operating_on(x: Step) -> Allocations
+    ensures { λ r. ⌜ r ≡ operatingAllocations x ⌝ }
 {
     let operating = x.operating;
-    allocate_all(operating, x.lower, x.upper)
+    allocate_all(operating, x.lower, x.upper, x.most)
 }
 
-// E
-pub fn pricing_on(x: Step) -> [u32; 5]
-    ensures { λ r. ⌜ r ≡ five (paper.pricingOn x) ⌝ }
+// E, likewise
+pub fn pricing_on(x: Step) -> Allocations
+    ensures { λ r. ⌜ r ≡ pricingAllocations x ⌝ }
 {
     let pricing = x.pricing;
-    allocate_all(pricing, x.lower, x.upper)
+    allocate_all(pricing, x.lower, x.upper, x.most)
 }
 
-// A
-pub fn actual_on(x: Step) -> u32
-    ensures { λ r. ⌜ r ≡ paper.actualOn x ⌝ }
+// A, likewise
+pub fn actual_on(x: Step) -> Allocation
+    ensures { λ r. ⌜ r ≡ actualAllocation x ⌝ }
 {
-    allocate(x.actual, x.lower, x.upper)
+    allocate(x.actual, x.lower, x.upper, x.most)
 }

@@ -9,8 +9,8 @@ ghost use Rattle.rules.specs.Payments as paper;
 ghost use Rattle.step_changes.specs.Changes.{revisedAt};
 
 // How far a price is beyond the market's, on a side.
-fn excess(side: u32, price: u32, market: u32) -> u32
-    ensures { λ r. ⌜ r ≡ paper.excess side price market ⌝ }
+fn beyond_by(side: u32, price: u32, market: u32) -> u32
+    ensures { λ r. ⌜ r ≡ paper.beyondBy side price market ⌝ }
 {
     if side == 1 {
         return saturating_sub(market, price);
@@ -36,11 +36,11 @@ pub fn rates(x: Step) -> [u32; 5]
     let price = x.price;
     let market = x.market;
     [
-        excess(side, price[0], market[0]),
-        excess(side, price[1], market[1]),
-        excess(side, price[2], market[2]),
-        excess(side, price[3], market[3]),
-        excess(side, price[4], market[4]),
+        beyond_by(side, price[0], market[0]),
+        beyond_by(side, price[1], market[1]),
+        beyond_by(side, price[2], market[2]),
+        beyond_by(side, price[3], market[3]),
+        beyond_by(side, price[4], market[4]),
     ]
 }
 
@@ -49,10 +49,10 @@ pub fn revised_rates(side: u32, price: [u32; 5], own: u32, market: u32) -> [u32;
     ensures { λ r. ⌜ r ≡ five (revisedAt side price own market) ⌝ }
 {
     [
-        excess(side, milder(side, price[0], own), market),
-        excess(side, milder(side, price[1], own), market),
-        excess(side, milder(side, price[2], own), market),
-        excess(side, milder(side, price[3], own), market),
-        excess(side, milder(side, price[4], own), market),
+        beyond_by(side, milder(side, price[0], own), market),
+        beyond_by(side, milder(side, price[1], own), market),
+        beyond_by(side, milder(side, price[2], own), market),
+        beyond_by(side, milder(side, price[3], own), market),
+        beyond_by(side, milder(side, price[4], own), market),
     ]
 }

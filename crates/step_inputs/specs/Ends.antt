@@ -4,7 +4,7 @@ use native.Mathlib.Omega.{arith}
 use mathlib.Core.Path.{_≡_, _∙_, ap}
 use mathlib.Core.List.{List}
 use Rattle.rules.specs.Fold.{sumTo}
-use Rattle.rules.specs.Quantities.{allocated}
+use Rattle.rules.specs.Quantities.{allocated, untaken}
 use Rattle.rules.specs.Steps.{greatestBreak, ends, stepCount, upperEnd, lowerEnd}
 use Rattle.laws.specs.Accepted.{AcceptedLine}
 use Rattle.laws.specs.Folds.{sum-same}
@@ -43,6 +43,7 @@ module _ (w : List ℕ) (a : AcceptedLine w) where
   width-is j l = let u = upper-most j l in omega arith
 
   pub widths-sum : sumTo (stepCount w) (width w) ≡ greatestBreak w
+  unfolding untaken
   widths-sum =
       sum-same (stepCount w) (width w) (allocatedBetween (greatestBreak w) (lowerEnd w)) width-is
-      ∙ steps-add-up w (greatestBreak w) line-ends (omega arith)
+      ∙ omega (arith, steps-add-up w (greatestBreak w) line-ends)

@@ -5,7 +5,7 @@ use mathlib.Core.List.{List}
 use Rattle.rules.specs.Fold.{five}
 use Rattle.rules.specs.Layout as layout
 use Rattle.rules.specs.Quantities.{pricingTotal, tableTotal, tableActual}
-use Rattle.rules.specs.Steps.{stepCount, lowerEnd}
+use Rattle.rules.specs.Steps.{greatestBreak, stepCount, lowerEnd}
 use Rattle.rules.specs.Cutting.{cutOf}
 use Rattle.rules.specs.declared.Step.{Step}
 use Rattle.laws.specs.Accepted.{AcceptedLine}
@@ -32,6 +32,7 @@ totalsOf t w =
       pricing = five (pricingTotal w);
       operating = five (tableTotal t);
       actual = tableActual t w;
+      most = greatestBreak w;
     }
 
 unfoldable pub stepWith : Market → LineTotals → ℕ → ℕ → List ℕ → List ℕ → Step
@@ -47,6 +48,7 @@ stepWith m t l u p f =
       pricing = t .pricing;
       operating = t .operating;
       actual = t .actual;
+      most = t .most;
     }
 
 -- what a step is put together from: step j of line k of the day d, whose line is accepted

@@ -23,7 +23,7 @@ use Rattle.laws.specs.Ints.{pl, mi, apart, pl-add, mi-add}
 use Rattle.day_totals.specs.Sizes.{size, Bounded}
 use Rattle.day_totals.specs.Money.{totals-bounded}
 use Rattle.numbers.specs.Fives.{five-most}
-use Rattle.step_quantities.specs.Adding.{stepConstrained, constrained-adds-up}
+use Rattle.step_quantities.specs.Adding.{stepConstrained, constrained-within}
 use Rattle.step_payments.specs.Sizes.{Sized}
 use Rattle.step_payments.specs.Parts.{changeOn}
 use Rattle.step_payments.specs.Kinds.{paid-most, taken-most}
@@ -174,7 +174,7 @@ module _ (d : List ℕ) (a : AcceptedDay d) where
     constrained-most : (s : ℕ) → s < 5 → sumTo (stepCount w) (λ j. at (onStep (stepOf d k j)) s) ≤ quantityMost
     unfolding stepConstrained
     constrained-most s i =
-        omega (arith, constrained-adds-up d k s i (line-ends w line) (line .operating-most s i), most-limit w line)
+        omega (arith, constrained-within d k (line-ends w line) s i, most-limit w line)
 
   -- the day of an accepted file is within them
   pub settled-sized : DaySized (settledDay d)

@@ -8,6 +8,7 @@ use layout::market::cap_marks;
 use layout::market::clawback;
 use layout::market::market_prices;
 use layout::market::price_cap;
+use line_limits::greatest_break::greatest_break;
 use line_quantities::rows::actuals;
 use line_quantities::rows::pricing_totals;
 use line_totals::effective_actual;
@@ -40,6 +41,8 @@ pub struct LineTotals {
     pub pricing: [u32; 5],
     pub operating: [u32; 5],
     pub actual: u32,
+    // M
+    pub most: u32,
 }
 
 // The market table.
@@ -88,6 +91,7 @@ pub fn totals_of(line: &[u8], table: [[u32; 5]; 5]) -> LineTotals
         pricing: narrow_row(pricing_totals(line)),
         operating: narrow_row(operating_totals(table)),
         actual: narrow(effective_actual(last, actuals(line))),
+        most: greatest_break(line),
     }
 }
 
@@ -118,6 +122,7 @@ fn step_of(
         pricing,
         operating,
         actual: t.actual,
+        most: t.most,
     }
 }
 

@@ -6,7 +6,7 @@ use mathlib.Core.Bool.{Bool, true, false, cond}
 use Rattle.rules.specs.Fold.{sumTo, at, before}
 use Rattle.rules.specs.Layout.{quantityMost, priceMost, withdrawal}
 use Rattle.rules.specs.Matching.{earlier, rise, fall, matched}
-use Rattle.rules.specs.Payments.{onStep, excess, milder, rate, revisedRate, givenBack}
+use Rattle.rules.specs.Payments.{onStep, beyondBy, milder, rate, revisedRate, givenBack}
 use Rattle.rules.specs.declared.Step.{Step}
 use Rattle.laws.specs.Folds.{sum-none, sum-suc}
 use Rattle.step_quantities.specs.Bounds.{onStep-upper}
@@ -19,17 +19,17 @@ pub record Sized (x : Step) : Type 0 where
   pub markets : (s : ℕ) → at (x .market) s ≤ priceMost
 
 -- rates of prices of at most b
-excess-by : (t : Bool) (p m b : ℕ) → p ≤ b → m ≤ b → cond t (m - p) (p - m) ≤ b
-excess-by true p m b h k = omega arith
-excess-by false p m b h k = omega arith
+beyond-by : (t : Bool) (p m b : ℕ) → p ≤ b → m ≤ b → cond t (m - p) (p - m) ≤ b
+beyond-by true p m b h k = omega arith
+beyond-by false p m b h k = omega arith
 
-pub excess-most : (sd p m b : ℕ) → p ≤ b → m ≤ b → excess sd p m ≤ b
-unfolding excess
-excess-most sd p m b h k = excess-by (withdrawal sd) p m b h k
+pub beyond-most : (sd p m b : ℕ) → p ≤ b → m ≤ b → beyondBy sd p m ≤ b
+unfolding beyondBy
+beyond-most sd p m b h k = beyond-by (withdrawal sd) p m b h k
 
 pub rate-most : (x : Step) (s : ℕ) → Sized x → rate x s ≤ priceMost
 unfolding rate
-rate-most x s z = excess-most (x .side) (at (x .price) s) (at (x .market) s) priceMost (z .prices s) (z .markets s)
+rate-most x s z = beyond-most (x .side) (at (x .price) s) (at (x .market) s) priceMost (z .prices s) (z .markets s)
 
 -- the revised rate is at most the rate
 milder-by : (t : Bool) (p q m : ℕ) → cond t (m - cond t (max p q) (min p q)) (cond t (max p q) (min p q) - m) ≤ cond t (m - q) (q - m)
@@ -37,7 +37,7 @@ milder-by true p q m = omega arith
 milder-by false p q m = omega arith
 
 pub revisedRate-most : (x : Step) (s r : ℕ) → revisedRate x s r ≤ rate x s
-unfolding revisedRate rate excess milder
+unfolding revisedRate rate beyondBy milder
 revisedRate-most x s r = milder-by (withdrawal (x .side)) (at (x .price) r) (at (x .price) s) (at (x .market) s)
 
 -- rises and falls of a step are at most its upper end

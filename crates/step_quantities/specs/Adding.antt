@@ -1,14 +1,14 @@
--- The steps' quantities add up to the totals: allocation over rising ends, then the steps of a line.
-use Prim.Native.Nat.{ℕ, zero, suc, _-_, _≤_, _<_, min}
+-- The steps' quantities and what no step takes add up to the totals: allocation over rising ends, then the steps of a line.
+use Prim.Native.Nat.{ℕ, zero, suc, _+_, _-_, _≤_, _<_, min}
 use native.Mathlib.Omega.{arith}
 use native.Mathlib.Decide.{decLt}
-use mathlib.Core.Path.{_≡_, _∙_}
+use mathlib.Core.Path.{_≡_, refl, _∙_, ap}
 use mathlib.Core.List.{List}
 use Rattle.rules.specs.Fold.{sumTo, five, at}
 use Rattle.rules.specs.Layout.{lineAt}
 use Rattle.rules.specs.Steps.{greatestBreak, stepCount, upperEnd, lowerEnd}
-use Rattle.rules.specs.Quantities.{allocated, pricingTotal, operatingTotal}
-use Rattle.rules.specs.Payments.{operatingOn, pricingOn, onStep}
+use Rattle.rules.specs.Quantities.{allocated, untaken, pricingTotal, operatingTotal, effectiveActual}
+use Rattle.rules.specs.Payments.{operatingOn, pricingOn, actualOn, excessOf, onStep}
 use Rattle.rules.specs.Days.{stepOf}
 use Rattle.laws.specs.Folds.{sum-none, sum-suc, sum-le, sum-same, at-five}
 use Rattle.step_quantities.specs.Bounds.{onStep-most}
@@ -48,20 +48,21 @@ pub upper-most : (w : List ℕ) (j : ℕ) → RisingEnds w → j < stepCount w �
 unfolding lowerEnd upperEnd
 upper-most w j e h = omega (arith, rising-le (stepCount w) (lowerEnd w) (e .rising) (suc j) h, e .last)
 
--- a total of at most M adds up over the steps of the line
-pub steps-add-up : (w : List ℕ) (q : ℕ) → RisingEnds w → q ≤ greatestBreak w → sumTo (stepCount w) (allocatedBetween q (lowerEnd w)) ≡ q
-unfolding lowerEnd upperEnd
-steps-add-up w q e h = telescope q (stepCount w) (lowerEnd w) (e .rising) ∙ omega (arith, e .last)
+-- what the steps of the line take of a quantity, and what no step takes, add up to it
+pub steps-add-up : (w : List ℕ) (q : ℕ) → RisingEnds w → sumTo (stepCount w) (allocatedBetween q (lowerEnd w)) + untaken q (greatestBreak w) ≡ q
+unfolding lowerEnd upperEnd untaken
+steps-add-up w q e = rw (telescope q (stepCount w) (lowerEnd w) (e .rising)) (omega (arith, e .last))
 
 -- the total f s of schedule s on step j of the line w
 unfoldable pub allocatedTo : (ℕ → ℕ) → List ℕ → ℕ → ℕ → ℕ
 allocatedTo f w s j = allocated (at (five f) s) (lowerEnd w j) (upperEnd w j)
 
-totals-add-up : (f : ℕ → ℕ) (w : List ℕ) (s : ℕ) → s < 5 → RisingEnds w → f s ≤ greatestBreak w → sumTo (stepCount w) (allocatedTo f w s) ≡ f s
+totals-add-up : (f : ℕ → ℕ) (w : List ℕ) (s : ℕ) → s < 5 → RisingEnds w → sumTo (stepCount w) (allocatedTo f w s) + untaken (f s) (greatestBreak w) ≡ f s
 unfolding allocatedTo allocatedBetween lowerEnd upperEnd
-totals-add-up f w s h e k =
-    sum-same (stepCount w) (allocatedTo f w s) (allocatedBetween (f s) (lowerEnd w)) (λ j l. rw (at-five f 0 s h))
-    ∙ steps-add-up w (f s) e k
+totals-add-up f w s h e =
+    ap (λ (n : ℕ). n + untaken (f s) (greatestBreak w))
+    (sum-same (stepCount w) (allocatedTo f w s) (allocatedBetween (f s) (lowerEnd w)) (λ j l. rw (at-five f 0 s h)))
+    ∙ steps-add-up w (f s) e
 
 -- the steps of line k of the day d
 unfoldable pub stepOperating : List ℕ → ℕ → ℕ → ℕ → ℕ
@@ -70,25 +71,59 @@ stepOperating d k s j = operatingOn (stepOf d k j) s
 unfoldable pub stepPricing : List ℕ → ℕ → ℕ → ℕ → ℕ
 stepPricing d k s j = pricingOn (stepOf d k j) s
 
+unfoldable pub stepActual : List ℕ → ℕ → ℕ → ℕ
+stepActual d k j = actualOn (stepOf d k j)
+
 unfoldable pub stepConstrained : List ℕ → ℕ → ℕ → ℕ → ℕ
 stepConstrained d k s j = at (onStep (stepOf d k j)) s
 
--- the steps' operating quantities add up to the operating total, in each schedule
-pub operating-adds-up : (d : List ℕ) (k s : ℕ) → s < 5 → RisingEnds (lineAt d k) → operatingTotal (lineAt d k) s ≤ greatestBreak (lineAt d k) → sumTo (stepCount (lineAt d k)) (stepOperating d k s) ≡ operatingTotal (lineAt d k) s
-unfolding stepOperating operatingOn stepOf allocatedTo
-operating-adds-up d k s h e b = totals-add-up (operatingTotal (lineAt d k)) (lineAt d k) s h e b
+-- what no step takes of the totals f
+untaken-row : (f : ℕ → ℕ) (m s : ℕ) → s < 5 → at (five (λ r. untaken (at (five f) r) m)) s ≡ untaken (f s) m
+untaken-row f m s h = at-five (λ r. untaken (at (five f) r) m) 0 s h ∙ rw (at-five f 0 s h)
 
--- the steps' pricing quantities add up to the pricing total
-pub pricing-adds-up : (d : List ℕ) (k s : ℕ) → s < 5 → RisingEnds (lineAt d k) → pricingTotal (lineAt d k) s ≤ greatestBreak (lineAt d k) → sumTo (stepCount (lineAt d k)) (stepPricing d k s) ≡ pricingTotal (lineAt d k) s
-unfolding stepPricing pricingOn stepOf allocatedTo
-pricing-adds-up d k s h e b = totals-add-up (pricingTotal (lineAt d k)) (lineAt d k) s h e b
+module _ (d : List ℕ) (k : ℕ) (e : RisingEnds (lineAt d k)) where
+  abbrev w : List ℕ
+  w = lineAt d k
 
--- the steps' C add up to at most M, in each schedule
-pub constrained-adds-up : (d : List ℕ) (k s : ℕ) → s < 5 → RisingEnds (lineAt d k) → operatingTotal (lineAt d k) s ≤ greatestBreak (lineAt d k) → sumTo (stepCount (lineAt d k)) (stepConstrained d k s) ≤ greatestBreak (lineAt d k)
-unfolding stepConstrained stepOperating
-constrained-adds-up d k s h e b =
-    omega (
-      arith,
-      sum-le (stepCount (lineAt d k)) (stepConstrained d k s) (stepOperating d k s) (λ j l. onStep-most (stepOf d k j) s h),
-      operating-adds-up d k s h e b,
-    )
+  -- the excess of any step of the line is the line's
+  pub excess-operating : (i s : ℕ) → s < 5 → at (excessOf (stepOf d k i) .operating) s ≡ untaken (operatingTotal w s) (greatestBreak w)
+  unfolding excessOf stepOf
+  excess-operating i s h = untaken-row (operatingTotal w) (greatestBreak w) s h
+
+  pub excess-pricing : (i s : ℕ) → s < 5 → at (excessOf (stepOf d k i) .pricing) s ≡ untaken (pricingTotal w s) (greatestBreak w)
+  unfolding excessOf stepOf
+  excess-pricing i s h = untaken-row (pricingTotal w) (greatestBreak w) s h
+
+  pub excess-actual : (i : ℕ) → excessOf (stepOf d k i) .actual ≡ untaken (effectiveActual w) (greatestBreak w)
+  unfolding excessOf stepOf
+  excess-actual i = refl
+
+  -- with it the steps' operating quantities add up to the operating total, in each schedule
+  pub operating-adds-up : (s : ℕ) → s < 5 → sumTo (stepCount w) (stepOperating d k s) + untaken (operatingTotal w s) (greatestBreak w) ≡ operatingTotal w s
+  unfolding stepOperating operatingOn stepOf allocatedTo
+  operating-adds-up s h = totals-add-up (operatingTotal w) w s h e
+
+  -- the steps' pricing quantities to the pricing total
+  pub pricing-adds-up : (s : ℕ) → s < 5 → sumTo (stepCount w) (stepPricing d k s) + untaken (pricingTotal w s) (greatestBreak w) ≡ pricingTotal w s
+  unfolding stepPricing pricingOn stepOf allocatedTo
+  pricing-adds-up s h = totals-add-up (pricingTotal w) w s h e
+
+  -- and the steps' parts of the effective actual to it
+  pub actual-adds-up : sumTo (stepCount w) (stepActual d k) + untaken (effectiveActual w) (greatestBreak w) ≡ effectiveActual w
+  unfolding stepActual actualOn stepOf allocatedBetween lowerEnd upperEnd
+  actual-adds-up = steps-add-up w (effectiveActual w) e
+
+  -- the steps' C add up to at most the operating total less its excess
+  pub constrained-adds-up : (s : ℕ) → s < 5 → sumTo (stepCount w) (stepConstrained d k s) + untaken (operatingTotal w s) (greatestBreak w) ≤ operatingTotal w s
+  unfolding stepConstrained stepOperating
+  constrained-adds-up s h =
+      omega (
+        arith,
+        sum-le (stepCount w) (stepConstrained d k s) (stepOperating d k s) (λ j l. onStep-most (stepOf d k j) s h),
+        operating-adds-up s h,
+      )
+
+  -- and so to at most M
+  pub constrained-within : (s : ℕ) → s < 5 → sumTo (stepCount w) (stepConstrained d k s) ≤ greatestBreak w
+  unfolding untaken
+  constrained-within s h = omega (arith, constrained-adds-up s h)

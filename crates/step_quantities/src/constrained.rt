@@ -1,5 +1,6 @@
 // Constrained on, and AGINO and MSIQ of a step, each for the five schedules at once (document 01, "Quantities").
 use numbers::saturating_sub;
+use rules::Excess;
 use rules::Step;
 use step_agino::agino;
 use step_allocation::actual_on;
@@ -11,6 +12,21 @@ ghost use Prim.Native.Nat.{_-_, _<_};
 ghost use Rattle.rules.specs.Fold.{five, at};
 ghost use Rattle.rules.specs.Quantities as rule;
 ghost use Rattle.rules.specs.Payments as paper;
+ghost use Rattle.step_quantities.specs.Quantities.{quantitiesOn};
+
+// The quantities of one step. Arrays are by schedule.
+pub struct StepQuantities {
+    // O, E, A
+    pub operating: [u32; 5],
+    pub pricing: [u32; 5],
+    pub actual: u32,
+    // AGINO, MSIQ, C
+    pub agino: [u32; 5],
+    pub msiq: [u32; 5],
+    pub constrained: [u32; 5],
+    // what no step of the line takes
+    pub excess: Excess,
+}
 
 // C of a schedule
 fn constrained_in(o: [u32; 5], g: [u32; 5], q: [u32; 5], s: usize) -> u32
@@ -33,26 +49,39 @@ pub fn constrained(o: [u32; 5], g: [u32; 5], q: [u32; 5]) -> [u32; 5]
     ]
 }
 
-// AGINO of a step
-pub fn agino_on(x: Step) -> [u32; 5]
-    ensures { λ r. ⌜ r ≡ five (paper.aginoOn x) ⌝ }
-{
-    agino(operating_on(x), actual_on(x))
-}
-
-// MSIQ of a step
-pub fn msiq_on(x: Step) -> [u32; 5]
-    ensures { λ r. ⌜ r ≡ five (paper.msiqOn x) ⌝ }
+// All quantities of a step, with what no step of its line takes.
+pub fn quantities_on(x: Step) -> StepQuantities
+    ensures { λ r. ⌜ r ≡ quantitiesOn x ⌝ }
 {
     let price = x.price;
     let market = x.market;
-    msiq(x.side, price, market, pricing_on(x))
+    let o = operating_on(x);
+    let e = pricing_on(x);
+    let a = actual_on(x);
+    let operating = o.taken;
+    let pricing = e.taken;
+    let operating_excess = o.excess;
+    let pricing_excess = e.excess;
+    let g = agino(operating, a.taken);
+    let q = msiq(x.side, price, market, pricing);
+    StepQuantities {
+        operating,
+        pricing,
+        actual: a.taken,
+        agino: g,
+        msiq: q,
+        constrained: constrained(operating, g, q),
+        excess: Excess {
+            operating: operating_excess,
+            pricing: pricing_excess,
+            actual: a.excess,
+        },
+    }
 }
 
 // C of a step
 pub fn constrained_on(x: Step) -> [u32; 5]
     ensures { λ r. ⌜ r ≡ paper.onStep x ⌝ }
 {
-    let o = operating_on(x);
-    constrained(o, agino(o, actual_on(x)), msiq_on(x))
+    quantities_on(x).constrained
 }

@@ -1,4 +1,5 @@
--- What the program `steps` prints for a day: each line's heading, and for each of its steps the figures that the step view answers.
+-- What the program `steps` prints for a day: each line's heading, for each of its steps the figures that the step view answers, and the
+-- line's excess.
 use Prim.Native.Nat.{ℕ, _+_, _*_}
 use mathlib.Core.List.{List, [], _∷_, _++_}
 use mathlib.Core.Bool.{cond}
@@ -10,9 +11,9 @@ use Rattle.rules.specs.Refusals.{dayFault}
 use Rattle.rules.specs.Viewing.{viewAnswer}
 use Rattle.rules.specs.Report.{decimal, space, lineFeed, refusedLine}
 use Rattle.text_lines.specs.Lines.{lineIds, sideSteps}
-use Rattle.text_view.specs.ViewText.{viewText}
+use Rattle.text_view.specs.ViewText.{viewText, excessRow}
 
--- "line ", "step ", "matches"
+-- "line "
 abbrev pub lineWord : List ℕ
 lineWord = 108 ∷ 105 ∷ 110 ∷ 101 ∷ 32 ∷ []
 
@@ -24,9 +25,9 @@ stepText d k j = viewText j (viewAnswer d k j)
 unfoldable pub lineHead : ℕ → List ℕ → List ℕ
 lineHead k w = lineWord ++ decimal k ++ space ++ lineIds (participant w) (point w) ++ sideSteps (side w) (stepCount w) ++ lineFeed
 
--- line k and all its steps
+-- line k, all its steps and its excess, as the view of its first step shows it
 unfoldable pub lineSteps : List ℕ → ℕ → List ℕ
-lineSteps d k = lineHead k (lineAt d k) ++ joined (stepCount (lineAt d k)) (stepText d k)
+lineSteps d k = lineHead k (lineAt d k) ++ joined (stepCount (lineAt d k)) (stepText d k) ++ excessRow (viewAnswer d k 0 .excess)
 
 -- the whole text of a day: all lines, or the refusal
 unfoldable pub stepsText : List ℕ → List ℕ
@@ -39,9 +40,9 @@ stepsPart d k =
     (cond (ltb k (lineCount d)) (lineSteps d k) [])
     (cond (eqb k 0) (refusedLine (dayFault d)) [])
 
--- the bytes that the longest part takes: a line's heading and 56 steps
+-- the bytes that the longest part takes: a line's heading, 56 steps and the excess
 abbrev pub partMost : ℕ
-partMost = 93 + 56 * 1587
+partMost = 93 + 56 * 1587 + 263
 
 -- the part put into `lent` bytes: nothing where these are too few for the longest one
 unfoldable pub partOf : List ℕ → ℕ → ℕ → List ℕ

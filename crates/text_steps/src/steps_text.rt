@@ -1,5 +1,5 @@
-// What the program `steps` prints, written into lent bytes: for each line of a day its heading, and for each of its steps the figures
-// that the step view answers.
+// What the program `steps` prints, written into lent bytes: for each line of a day its heading, for each of its steps the figures that
+// the step view answers, and its excess.
 use day::day_number;
 use layout::fields::participant;
 use layout::fields::point;
@@ -12,6 +12,7 @@ use text::digits::put_decimal;
 use text::refused::put_refused;
 use text_lines::put_ids;
 use text_lines::put_side_steps;
+use text_view::put_excess;
 use text_view::put_view;
 use view::view;
 ghost use mathlib.Core.Path.{_≡_};
@@ -24,8 +25,8 @@ ghost use Rattle.laws.specs.Accepted.{AcceptedDay};
 ghost use Rattle.text.specs.Put.{Written};
 ghost use Rattle.text_steps.specs.Text.{stepText, lineHead, lineSteps, partOf};
 
-// The bytes that the longest part takes: a line's heading and 56 steps.
-pub const PART_MOST: usize = 93 + 56 * 1587;
+// The bytes that the longest part takes: a line's heading, 56 steps and the excess.
+pub const PART_MOST: usize = 93 + 56 * 1587 + 263;
 
 // The first `count` steps of line k. The loop maintains that the first j are put.
 fn put_steps(out: &mut [u8], at: usize, day: &[u8], k: usize, count: usize) -> usize
@@ -54,18 +55,22 @@ fn put_line_head(out: &mut [u8], at: usize, k: usize, line: &[u8], count: u32) -
     put_byte(out, e, b'\n')
 }
 
-// Line k and all its steps.
+// Line k, all its steps and its excess, which the view of each step has.
 fn put_line(out: &mut [u8], at: usize, day: &[u8], k: usize) -> usize
-    requires { ⌜ (AcceptedDay (now day)) × (k < lineCount (now day)) × (at + 88965 ≤ length (now out)) ⌝ }
-    ensures { λ r. ⌜ Written 88965 (now (out .entry)) at (lineSteps (now (day .entry)) k) r (now (out .exit)) ⌝ }
+    requires { ⌜ (AcceptedDay (now day)) × (k < lineCount (now day)) × (at + 89228 ≤ length (now out)) ⌝ }
+    ensures { λ r. ⌜ Written 89228 (now (out .entry)) at (lineSteps (now (day .entry)) k) r (now (out .exit)) ⌝ }
 {
     let line = line_of(day, k);
     let count = cutter::steps::steps(line).count;
     let a = put_line_head(out, at, k, line, count);
-    put_steps(out, a, day, k, count as usize)
+    let b = put_steps(out, a, day, k, count as usize);
+    let v = view(day, k, 0);
+    let excess = v.excess;
+    put_excess(out, b, excess)
 }
 
-// Part k of a day's text, from the first of the lent bytes on: line k and all its steps; of a refused day the refusal, which is part 0.
+// Part k of a day's text, from the first of the lent bytes on: line k, all its steps and its excess; of a refused day the refusal, which is
+// part 0.
 // It answers how many bytes it put. It puts none past the last part, and where fewer than `PART_MOST` are lent.
 pub fn part(day: &[u8], k: usize, out: &mut [u8]) -> usize
     ensures { λ r. do

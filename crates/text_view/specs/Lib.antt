@@ -1,2 +1,2 @@
--- The text of one step's figures.
+-- The text of one step's figures, and of a line's excess.
 pub mod ViewText

@@ -1,9 +1,10 @@
--- The text of one step's figures.
+-- The text of one step's figures, and of a line's excess.
 use Prim.Native.Nat.{ℕ, _+_}
 use mathlib.Core.List.{List, [], _∷_, _++_}
 use Rattle.rules.specs.Fold.{joined, at, atZ}
 use Rattle.rules.specs.Report.{decimal, lineFeed, numberAfter}
 use Rattle.rules.specs.declared.View.{View}
+use Rattle.rules.specs.declared.Excess.{Excess}
 use Rattle.text.specs.Rows.{words}
 
 abbrev pub stepWord : List ℕ
@@ -11,6 +12,16 @@ stepWord = 115 ∷ 116 ∷ 101 ∷ 112 ∷ 32 ∷ []
 
 abbrev pub matchesWord : List ℕ
 matchesWord = 109 ∷ 97 ∷ 116 ∷ 99 ∷ 104 ∷ 101 ∷ 115 ∷ []
+
+-- "excess pricing", " operating" and " actual"
+abbrev pub excessPricingWord : List ℕ
+excessPricingWord = 101 ∷ 120 ∷ 99 ∷ 101 ∷ 115 ∷ 115 ∷ 32 ∷ 112 ∷ 114 ∷ 105 ∷ 99 ∷ 105 ∷ 110 ∷ 103 ∷ []
+
+abbrev pub operatingWord : List ℕ
+operatingWord = 32 ∷ 111 ∷ 112 ∷ 101 ∷ 114 ∷ 97 ∷ 116 ∷ 105 ∷ 110 ∷ 103 ∷ []
+
+abbrev pub actualWord : List ℕ
+actualWord = 32 ∷ 97 ∷ 99 ∷ 116 ∷ 117 ∷ 97 ∷ 108 ∷ []
 
 -- `step J END WIDTH A`: the step's number, its upper end, its width, its effective actual
 unfoldable pub stepHead : ℕ → View → List ℕ
@@ -37,3 +48,7 @@ matchesRow m = matchesWord ++ words m ++ lineFeed
 -- the text of step j, whose figures are v
 unfoldable pub viewText : ℕ → View → List ℕ
 viewText j v = stepHead j v ++ joined 5 (scheduleRow v) ++ matchesRow (v .matches)
+
+-- `excess pricing P1 .. P5 operating O1 .. O5 actual A`
+unfoldable pub excessRow : Excess → List ℕ
+excessRow x = excessPricingWord ++ words (x .pricing) ++ operatingWord ++ words (x .operating) ++ actualWord ++ words (x .actual ∷ []) ++ lineFeed

@@ -1,4 +1,5 @@
-// The text of one step's figures, written into lent bytes from a place on.
+// The text of one step's figures, and of a line's excess, written into lent bytes from a place on.
+use rules::Excess;
 use rules::View;
 use text::digits::put_byte;
 use text::digits::put_bytes;
@@ -10,7 +11,8 @@ ghost use Prim.Native.Nat.{_+_, _≤_, _<_};
 ghost use lib.ListN.{length};
 ghost use Rattle.rules.specs.Fold.{joined};
 ghost use Rattle.text.specs.Put.{Written};
-ghost use Rattle.text_view.specs.ViewText.{quantitiesIn, paymentsText, scheduleRow, stepHead, matchesRow, viewText};
+ghost use Rattle.text.specs.Rows.{words};
+ghost use Rattle.text_view.specs.ViewText.{quantitiesIn, paymentsText, scheduleRow, stepHead, matchesRow, viewText, excessRow};
 
 // Price, flag, O, E, AGINO, MSIQ and C in schedule s.
 fn quantities_in(v: View, s: usize) -> [u32; 7]
@@ -100,4 +102,29 @@ pub fn put_view(out: &mut [u8], at: usize, j: usize, v: View) -> usize
     let a = put_step_head(out, at, j, v);
     let b = put_rows(out, a, v);
     put_matches(out, b, m)
+}
+
+// Five numbers, each after a space.
+fn put_five(out: &mut [u8], at: usize, row: [u32; 5]) -> usize
+    requires { ⌜ at + 105 ≤ length (now out) ⌝ }
+    ensures { λ r. ⌜ Written 105 (now (out .entry)) at (words row) r (now (out .exit)) ⌝ }
+{
+    put_words(out, at, &row)
+}
+
+// The row of a line's excess.
+pub fn put_excess(out: &mut [u8], at: usize, x: Excess) -> usize
+    requires { ⌜ at + 263 ≤ length (now out) ⌝ }
+    ensures { λ r. ⌜ Written 263 (now (out .entry)) at (excessRow x) r (now (out .exit)) ⌝ }
+{
+    let pricing = x.pricing;
+    let operating = x.operating;
+    let actual = [x.actual];
+    let a = put_bytes(out, at, b"excess pricing");
+    let b = put_five(out, a, pricing);
+    let c = put_bytes(out, b, b" operating");
+    let d = put_five(out, c, operating);
+    let e = put_bytes(out, d, b" actual");
+    let f = put_words(out, e, &actual);
+    put_byte(out, f, b'\n')
 }

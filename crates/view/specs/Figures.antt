@@ -10,8 +10,7 @@ use Rattle.rules.specs.Fold.{five}
 use Rattle.rules.specs.Layout.{lineCount, lineAt, side, clawback}
 use Rattle.rules.specs.Steps.{stepCount}
 use Rattle.rules.specs.Refusals.{dayFault, viewFault}
-use Rattle.rules.specs.Matching.{tenMatches}
-use Rattle.rules.specs.Payments.{operatingOn, pricingOn, actualOn, aginoOn, msiqOn, onStep, initial, revised, modified, stepFinal}
+use Rattle.rules.specs.Payments.{stepFinal}
 use Rattle.rules.specs.Days.{stepOf, settledDay}
 use Rattle.rules.specs.Viewing.{figuresOf, viewOf, viewRefused, viewAnswer}
 use Rattle.rules.specs.declared.Step.{Step}

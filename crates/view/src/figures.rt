@@ -1,18 +1,13 @@
 // The figures of one step, which the step view answers.
 use rules::Step;
 use rules::View;
-use step_allocation::actual_on;
-use step_allocation::operating_on;
-use step_allocation::pricing_on;
 use step_finals::finals::finals;
 use step_matching::matches::ten_matches;
 use step_payments::payments::initial;
 use step_payments::payments::modified;
 use step_payments::payments::revised;
 use step_pool::pool_amounts::SidePool;
-use step_quantities::constrained::agino_on;
-use step_quantities::constrained::constrained_on;
-use step_quantities::constrained::msiq_on;
+use step_quantities::constrained::quantities_on;
 ghost use mathlib.Core.Path.{_≡_};
 ghost use Prim.Native.Nat.{_-_};
 ghost use Rattle.rules.specs.Fold.{five};
@@ -45,23 +40,30 @@ pub fn figures(x: Step, claw: u32, p: SidePool) -> View
 {
     let price = x.price;
     let flag = x.flag;
-    let c = constrained_on(x);
+    let q = quantities_on(x);
+    let operating = q.operating;
+    let pricing = q.pricing;
+    let agino = q.agino;
+    let msiq = q.msiq;
+    let constrained = q.constrained;
+    let excess = q.excess;
     View {
-        number: 0,
-        end: x.upper,
-        width: width_of(x.lower, x.upper),
-        actual: actual_on(x),
-        price,
-        flag,
-        operating: operating_on(x),
-        pricing: pricing_on(x),
-        agino: agino_on(x),
-        msiq: msiq_on(x),
-        constrained: c,
-        matches: ten_matches(c),
         initial: initial(x),
         revised: revised(x),
         modified: modified(x),
         finals: final_payments(x, claw, p),
+        number: 0,
+        end: x.upper,
+        width: width_of(x.lower, x.upper),
+        actual: q.actual,
+        price,
+        flag,
+        operating,
+        pricing,
+        agino,
+        msiq,
+        constrained,
+        matches: ten_matches(constrained),
+        excess,
     }
 }

@@ -7,6 +7,7 @@ use day_pools::pool_for;
 use layout::header::line_count;
 use layout::header::line_of;
 use line_quantities::rows::operating_table;
+use rules::Excess;
 use rules::View;
 use step_inputs::inputs::market_of;
 use step_inputs::inputs::step_at;
@@ -22,6 +23,10 @@ fn refused(number: u32) -> View
     ensures { λ r. ⌜ r ≡ viewRefused number ⌝ }
 {
     View {
+        initial: [0; 5],
+        revised: [0; 5],
+        modified: [0; 5],
+        finals: [0; 5],
         number,
         end: 0,
         width: 0,
@@ -34,10 +39,11 @@ fn refused(number: u32) -> View
         msiq: [0; 5],
         constrained: [0; 5],
         matches: [0; 10],
-        initial: [0; 5],
-        revised: [0; 5],
-        modified: [0; 5],
-        finals: [0; 5],
+        excess: Excess {
+            operating: [0; 5],
+            pricing: [0; 5],
+            actual: 0,
+        },
     }
 }
 

@@ -1,6 +1,6 @@
 //! Damage to a day, each with the number it leads to; 0 is the passing side of a limit.
 
-use super::draw::{append_line, draw_line, Scale};
+use super::draw::{append_line, draw_day, draw_line, Scale};
 use super::random::Random;
 use crate::layout::*;
 
@@ -127,6 +127,20 @@ pub fn line_with_own_key(day: &mut [u8], random: &mut Random) -> usize {
     let k = random.place(used.len());
     put_word(line_mut(day, k), PARTICIPANT, free.unwrap_or(0));
     k
+}
+
+/// A day of 2 to 4 lines, and where the line begins that is to be damaged. It has a key of its own; `change` was made
+/// to the others.
+pub fn day_to_damage(seed: u64, change: fn(&mut [u8], &mut Random)) -> (Vec<u8>, usize) {
+    let random = &mut Random::new(seed);
+    let lines = random.range(2, 4);
+    let scale = Scale::draw(random);
+    let mut day = draw_day(random, lines, scale);
+    let damaged = line_with_own_key(&mut day, random);
+    for k in (0..lines as usize).filter(|&k| k != damaged) {
+        change(line_mut(&mut day, k), random);
+    }
+    (day, day_length(damaged))
 }
 
 /// A line with its own key and another one beside it.

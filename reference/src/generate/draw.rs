@@ -201,9 +201,7 @@ pub fn draw_quantities(line: &mut [u8], random: &mut Random) {
             2..4 => total,
             _ => random.range(0, most),
         };
-        for (i, part) in split(random, total, SCHEDULES).into_iter().enumerate() {
-            put_word(line, operating_place(s, i), part);
-        }
+        draw_operating(line, random, s, total);
     }
     let as_scheduled = random.one_in(2);
     for i in 0..SCHEDULES {
@@ -214,6 +212,13 @@ pub fn draw_quantities(line: &mut [u8], random: &mut Random) {
             draw_actual(random, scheduled)
         };
         put_word(line, actual_place(i), actual);
+    }
+}
+
+/// Operating quantities of a schedule that add up to the total.
+pub fn draw_operating(line: &mut [u8], random: &mut Random, s: usize, total: u32) {
+    for (i, part) in split(random, total, SCHEDULES).into_iter().enumerate() {
+        put_word(line, operating_place(s, i), part);
     }
 }
 
@@ -228,7 +233,7 @@ fn draw_actual(random: &mut Random, scheduled: u32) -> u32 {
 }
 
 /// Parts that add up to the total.
-pub fn split(random: &mut Random, total: u32, parts: usize) -> Vec<u32> {
+fn split(random: &mut Random, total: u32, parts: usize) -> Vec<u32> {
     let mut left = total;
     let mut split = Vec::new();
     for _ in 1..parts {

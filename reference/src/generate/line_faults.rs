@@ -98,11 +98,11 @@ pub const LINE_FAULTS: &[LineFault] = &[
     (11, |line, random| {
         put_hedge(line, random, Side::Withdrawal, |most| most)
     }),
-    // Totals; the last of each group add up to 2^32 or more.
+    // Totals; the last of each group add up to 2^32 or more. M + 1 was a fault before 02 F-2.
     (0, |line, random| {
         put_operating(line, random, |most| [0, most, 0, 0, 0])
     }),
-    (12, |line, random| {
+    (0, |line, random| {
         put_operating(line, random, |most| [0, most, 0, 0, 1])
     }),
     (12, |line, random| {
@@ -115,7 +115,7 @@ pub const LINE_FAULTS: &[LineFault] = &[
         put_operating(line, random, |_| [1 << 31, 0, 0, 0, 1 << 31])
     }),
     (0, |line, random| put_pricing(line, random, 0)),
-    (12, |line, random| put_pricing(line, random, 1)),
+    (0, |line, random| put_pricing(line, random, 1)),
     (12, |line, _| {
         (0..2).for_each(|i| put_word(line, pricing_place(0, 3 + i), 1 << 31))
     }),
@@ -277,14 +277,22 @@ fn put_operating(line: &mut [u8], random: &mut Random, row: fn(u32) -> BySchedul
     }
 }
 
-/// Makes one pricing total M + `above`. A row's last entry is in no other total.
+/// Makes one pricing total M + `above`.
 fn put_pricing(line: &mut [u8], random: &mut Random, above: u32) {
     let s = random.place(SCHEDULES);
-    let last = SCHEDULES - 1;
-    let others: u32 = (0..last)
-        .map(|i| word(line, pricing_place(s.min(i), i)))
-        .sum();
-    put_word(line, pricing_place(s, last), most(line) + above - others);
+    put_total(line, PRICING, s, most(line) + above);
+}
+
+/// The places of the five entries that a schedule's total adds up.
+pub type Entries = fn(usize) -> BySchedule<usize>;
+pub const PRICING: Entries = |s| std::array::from_fn(|i| pricing_place(s.min(i), i));
+pub const OPERATING: Entries = |s| std::array::from_fn(|i| operating_place(s, i));
+
+/// Makes a schedule's total this one by its last entry, which is in no other total.
+pub fn put_total(line: &mut [u8], entries: Entries, s: usize, total: u32) {
+    let [others @ .., last] = entries(s);
+    let others: u32 = others.iter().map(|&place| word(line, place)).sum();
+    put_word(line, last, total - others);
 }
 
 fn put_actual(line: &mut [u8], random: &mut Random, value: u32) {

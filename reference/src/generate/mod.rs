@@ -3,6 +3,9 @@
 mod day_faults;
 mod draw;
 mod edges;
+mod excess;
+mod excess_faults;
+mod faults;
 mod line_faults;
 mod pulled;
 mod pulled_faults;
@@ -13,6 +16,11 @@ use crate::layout::*;
 use day_faults::{line_mut, line_with_own_key, DAY_FAULTS};
 use draw::{draw_day, draw_line, Scale};
 pub use edges::edge_days;
+pub use excess::{excess_day, excess_line, small_excess_day};
+pub use excess_faults::{
+    excess_fault_day, excess_fault_day_and_number, excess_fault_line, excess_fault_line_and_number,
+    excess_k10_days, excess_k10_lines,
+};
 use line_faults::{damage_line, LINE_FAULTS};
 pub use pulled::{pulled_day, pulled_line, small_pulled_day};
 pub use pulled_faults::{

@@ -1,7 +1,7 @@
 //! Days and lines without fault in which bids are pulled in a reschedule (02 F-6).
 
 use super::day_faults::line_mut;
-use super::draw::{draw_quantities, split};
+use super::draw::{draw_operating, draw_quantities};
 use super::line_faults::{most, pull, put_fresh_bid};
 use super::random::Random;
 use super::sets::{draw_accreditation, put_accreditation, put_sets};
@@ -97,19 +97,23 @@ fn draw_hedge(line: &mut [u8], random: &mut Random) {
 /// Operating totals that rise before the first pulled bid and fall with it; nothing priced, all delivered.
 fn draw_fall(line: &mut [u8], pulled: usize, random: &mut Random) {
     let most = most(line);
+    clear_pricing(line);
     for s in 0..SCHEDULES {
-        (s..SCHEDULES).for_each(|i| put_word(line, pricing_place(s, i), 0));
         let total = match s {
             _ if s + 1 < pulled => random.range(0, most),
             _ if s < pulled => random.range(most / 2, most),
             _ if s == pulled => random.range(0, most / 2),
             _ => random.range(0, most),
         };
-        for (i, part) in split(random, total, SCHEDULES).into_iter().enumerate() {
-            put_word(line, operating_place(s, i), part);
-        }
+        draw_operating(line, random, s, total);
     }
     (0..SCHEDULES).for_each(|i| put_word(line, actual_place(i), QUANTITY_LIMIT));
+}
+
+/// Nothing is priced.
+pub fn clear_pricing(line: &mut [u8]) {
+    let places = pricing_place(0, 0)..operating_place(0, 0);
+    places.for_each(|place| put_word(line, place, 0));
 }
 
 /// A cap mark on the schedule of a pulled bid, and APC around the price that it takes over.

@@ -1,18 +1,26 @@
 //! Damage to days and lines with pulled bids (02 F-6), each with the number it leads to; 0 is the passing side of a
 //! limit.
 
-use super::day_faults::{line_mut, line_with_own_key};
-use super::draw::{draw_day, put_bid, Scale};
-use super::line;
-use super::line_faults::{pull, put_fresh_bid, LineFault};
+use super::day_faults::line_mut;
+use super::draw::put_bid;
+use super::faults::{Fault, Faults};
+use super::line_faults::*;
 use super::pulled::{pull_bids, pull_some};
 use super::random::Random;
 use super::sets::first_line_twice;
 use crate::k10::k10;
 use crate::layout::*;
 
+const FAULTS: Faults = Faults {
+    of_line: OF_LINE,
+    of_day: OF_DAY,
+    of_line_alone: OF_LINE_ALONE,
+    further: (SLOTS, put_slot),
+    change: pull_some,
+};
+
 /// Of a line in which no bid is pulled.
-const FAULTS: &[LineFault] = &[
+const OF_LINE: &[LineFault] = &[
     // 0 in schedule 1: alone, its slots kept, and beside pulled bids.
     (7, |line, _| pull(line, 0)),
     (7, |line, _| put_word(line, count_place(0), 0)),
@@ -75,37 +83,25 @@ const FAULTS: &[LineFault] = &[
     }),
     (11, |line, random| {
         let lowered = lower_most(line, random, Side::Injection);
-        put_word(line, HEDGE, lowered.before);
+        put_word(line, HEDGE, lowered.former);
     }),
     (11, |line, random| {
         lower_most(line, random, Side::Withdrawal);
         put_word(line, HEDGE, 1);
     }),
-    // Totals and M likewise.
-    (0, |line, random| {
-        put_total(line, random, OPERATING, |l| l.most)
-    }),
-    (12, |line, random| {
-        put_total(line, random, OPERATING, |l| l.most + 1)
-    }),
-    (12, |line, random| {
-        put_total(line, random, OPERATING, |l| l.before)
-    }),
-    (0, |line, random| {
-        put_total(line, random, PRICING, |l| l.most)
-    }),
-    (12, |line, random| {
-        put_total(line, random, PRICING, |l| l.most + 1)
-    }),
-    (12, |line, random| {
-        put_total(line, random, PRICING, |l| l.before)
-    }),
+    // Totals and M likewise. Those up to M + 1,000 were a fault before 02 F-2.
+    (0, |line, random| at_lowered(line, random, OPERATING, 0)),
+    (0, |line, random| at_lowered(line, random, OPERATING, 1)),
+    (0, |line, random| at_former(line, random, OPERATING, 0)),
+    (0, |line, random| at_lowered(line, random, PRICING, 0)),
+    (0, |line, random| at_lowered(line, random, PRICING, 1)),
+    (0, |line, random| at_former(line, random, PRICING, 0)),
     // M where bids 2 to 5 are pulled.
     (0, |line, _| {
         first_bid_alone(line, 700);
         put_word(line, operating_place(4, 4), 700);
     }),
-    (12, |line, _| {
+    (0, |line, _| {
         first_bid_alone(line, 700);
         put_word(line, operating_place(4, 4), 701);
     }),
@@ -144,7 +140,7 @@ const FAULTS: &[LineFault] = &[
         put_word(line, HEDGE, u32::MAX);
     }),
     (11, |line, random| {
-        put_total(line, random, OPERATING, |l| l.before);
+        at_former(line, random, OPERATING, 0);
         put_word(line, HEDGE, u32::MAX);
     }),
     (13, |line, random| {
@@ -153,10 +149,7 @@ const FAULTS: &[LineFault] = &[
     }),
 ];
 
-type Fault = (u32, fn(&mut Vec<u8>));
-
-/// Of a day of at least 2 lines.
-const FAULTS_OF_DAY: [Fault; 3] = [
+const OF_DAY: &[Fault] = &[
     (14, |day| {
         first_line_twice(day);
         first_bid_alone(line_mut(day, 1), 9);
@@ -172,8 +165,7 @@ const FAULTS_OF_DAY: [Fault; 3] = [
     }),
 ];
 
-/// Of a line, as the cutter meets it.
-const FAULTS_OF_LINE: [Fault; 1] = [(18, |line| {
+const OF_LINE_ALONE: &[Fault] = &[(18, |line| {
     first_bid_alone(line, 9);
     line.truncate(LINE_BYTES - 1);
 })];
@@ -196,10 +188,10 @@ fn put_later_count(line: &mut [u8], random: &mut Random, count: u32) {
     put_word(line, count_place(later(random)), count);
 }
 
-/// M, and what it was before a bid was pulled.
+/// M, and what it was before a bid was pulled: at most 1,000 more.
 struct Lowered {
     most: u32,
-    before: u32,
+    former: u32,
 }
 
 /// Gives the line a side and other bids, of which the one with the greatest break is pulled. There is no hedge, and all
@@ -208,19 +200,19 @@ fn lower_most(line: &mut [u8], random: &mut Random, side: Side) -> Lowered {
     let most = random.range(2, 1000);
     let lowered = Lowered {
         most,
-        before: most + random.range(1, 1000),
+        former: most + random.range(1, 1000),
     };
     clear(line);
     put_word(line, SIDE, side as u32);
     (0..SCHEDULES).for_each(|bid| put_bid(line, bid, &[most / 2, most], &[5, 5]));
     let bid = later(random);
-    put_bid(line, bid, &[lowered.before], &[5]);
+    put_bid(line, bid, &[lowered.former], &[5]);
     pull(line, bid);
     lowered
 }
 
 /// One bid, the first, with this break; no hedge, all totals 0.
-fn first_bid_alone(line: &mut [u8], most: u32) {
+pub fn first_bid_alone(line: &mut [u8], most: u32) {
     clear(line);
     put_bid(line, 0, &[most], &[5]);
     (1..SCHEDULES).for_each(|bid| pull(line, bid));
@@ -233,66 +225,51 @@ fn clear(line: &mut [u8]) {
     places.for_each(|place| put_word(line, place, 0));
 }
 
-/// The place of a schedule's last entry, which is in its total.
-type Entry = fn(usize) -> usize;
-const OPERATING: Entry = |s| operating_place(s, SCHEDULES - 1);
-const PRICING: Entry = |s| pricing_place(s, SCHEDULES - 1);
+/// A total of the lowered M and `above`.
+pub fn at_lowered(line: &mut [u8], random: &mut Random, entries: Entries, above: u32) {
+    put_lowered(line, random, entries, |lowered| lowered.most + above);
+}
+
+/// A total of M as it was before, and `above`.
+pub fn at_former(line: &mut [u8], random: &mut Random, entries: Entries, above: u32) {
+    put_lowered(line, random, entries, |lowered| lowered.former + above);
+}
 
 /// A total of some schedule, of a line of either side whose M was lowered.
-fn put_total(line: &mut [u8], random: &mut Random, entry: Entry, total: fn(&Lowered) -> u32) {
+fn put_lowered(
+    line: &mut [u8],
+    random: &mut Random,
+    entries: Entries,
+    total: impl Fn(Lowered) -> u32,
+) {
     let side = random.side();
     let lowered = lower_most(line, random, side);
-    let place = entry(random.place(SCHEDULES));
-    put_word(line, place, total(&lowered));
+    put_total(line, entries, random.place(SCHEDULES), total(lowered));
+}
+
+/// Puts 1 into a slot of a pulled bid.
+fn put_slot(line: &mut [u8], random: &mut Random, slot: usize) -> u32 {
+    let bid = pull_later(line, random);
+    put_word(line, count_place(bid) + 1 + slot, 1);
+    10
 }
 
 pub fn pulled_fault_day(seed: u64) -> Vec<u8> {
-    pulled_fault_day_and_number(seed).0
+    FAULTS.day(seed).0
 }
 
 /// A day with a line at a limit that pulled bids have, and its number. Seeds in a row go through all the faults.
 pub fn pulled_fault_day_and_number(seed: u64) -> (Vec<u8>, u32) {
-    let random = &mut Random::new(seed);
-    let lines = random.range(2, 4);
-    let scale = Scale::draw(random);
-    let mut day = draw_day(random, lines, scale);
-    let damaged = line_with_own_key(&mut day, random);
-    for k in (0..lines as usize).filter(|&k| k != damaged) {
-        pull_some(line_mut(&mut day, k), random);
-    }
-    let number = damage(&mut day, day_length(damaged), seed, &FAULTS_OF_DAY);
-    (day, number)
+    FAULTS.day(seed)
 }
 
 pub fn pulled_fault_line(seed: u64) -> Vec<u8> {
-    pulled_fault_line_and_number(seed).0
+    FAULTS.line(seed).0
 }
 
 /// A line likewise, and the cutter's number for it.
 pub fn pulled_fault_line_and_number(seed: u64) -> (Vec<u8>, u32) {
-    let mut line = line(seed);
-    let number = damage(&mut line, 0, seed, &FAULTS_OF_LINE);
-    (line, number)
-}
-
-/// Damages the line at `start`, or puts a slot of a pulled bid there, or damages the whole, and answers the number.
-fn damage(bytes: &mut Vec<u8>, start: usize, seed: u64, of_whole: &[Fault]) -> u32 {
-    let random = &mut Random::new(!seed);
-    let kinds = FAULTS.len() + of_whole.len() + SLOTS;
-    let kind = (seed % kinds as u64) as usize;
-    let line = &mut bytes[start..][..LINE_BYTES];
-    if let Some((number, apply)) = FAULTS.get(kind) {
-        apply(line, random);
-        return *number;
-    }
-    if let Some((number, apply)) = of_whole.get(kind - FAULTS.len()) {
-        apply(bytes);
-        return *number;
-    }
-    let bid = pull_later(line, random);
-    let slot = kind - FAULTS.len() - of_whole.len();
-    put_word(line, count_place(bid) + 1 + slot, 1);
-    10
+    FAULTS.line(seed)
 }
 
 /// The day of K10 with each set of bids pulled, bit s for schedule s from 0, then with one slot of a pulled bid as 1:

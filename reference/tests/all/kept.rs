@@ -49,8 +49,9 @@ fn assert_all_numbers(pack: &[u8], wanted: impl IntoIterator<Item = u32>) {
     }
 }
 
-/// The numbers of days at a limit that pulled bids have.
-const PULLED_NUMBERS: [u32; 10] = [0, 6, 7, 8, 9, 10, 11, 12, 13, 14];
+/// The numbers of days at a limit that pulled bids have, and of those with totals around M + 1,000.
+const PULLED_NUMBERS: [u32; 9] = [0, 6, 7, 8, 9, 10, 11, 13, 14];
+const EXCESS_NUMBERS: [u32; 8] = [0, 6, 8, 10, 11, 12, 13, 14];
 
 #[test]
 fn examples() {
@@ -68,14 +69,17 @@ fn examples() {
     }
 }
 
-/// The worked days of docs/RULES.md, whose report and steps were worked out by hand, and the winter day, whose report was.
+/// The worked days of docs/RULES.md, whose report and steps were worked out by hand, and the winter day, whose report
+/// was.
 #[test]
 fn worked_by_hand() {
-    for name in ["rules", "accreditation", "pulled", "winter"] {
+    for name in ["rules", "accreditation", "pulled", "excess", "winter"] {
         let day = stored(&format!("examples/{name}.day"));
         for (program, ending) in [("settle", "report"), ("steps", "steps")] {
             let file = format!("examples/{name}.{ending}");
-            assert_eq!(stored(&file), run(&[program], &day), "{file}");
+            let text = |bytes| String::from_utf8(bytes).unwrap();
+            let found = text(run(&[program], &day));
+            assert_eq!(text(stored(&file)), found, "{file}");
         }
     }
 }
@@ -85,13 +89,15 @@ fn day_numbers() {
     let damaged = made(&["days 4608 57 damaged"]);
     let sets = made(&["accreditations", "days 0 34 set-faults"]);
     let pulled = made(&["pulled", "days 0 63 pulled-faults"]);
+    let excess = made(&["excess", "days 0 33 excess-faults"]);
     let edges = made(&["edges"]);
-    let pack = [&edges[..], &damaged, &sets, &pulled].concat();
+    let pack = [&edges[..], &damaged, &sets, &pulled, &excess].concat();
     assert!(kept("check_day_numbers", "stdin") == pack);
     assert!(kept("check_day_numbers", "stdout") == numbers(&pack).as_bytes());
     assert_all_numbers(&damaged, 0..=14);
     assert_all_numbers(&sets, [0, 5, 6, 13, 14]);
     assert_all_numbers(&pulled, PULLED_NUMBERS);
+    assert_all_numbers(&excess, EXCESS_NUMBERS);
 }
 
 #[test]
@@ -101,8 +107,8 @@ fn settle() {
     assert_eq!(kept("settle", "stdout"), K10_REPORT.as_bytes());
 }
 
-/// Days of 1 to 64 lines, valid and damaged, with every refusal that a file can have; then days with sets and with
-/// pulled bids.
+/// Days of 1 to 64 lines, valid and damaged, with every refusal that a file can have; then days with sets, with pulled
+/// bids and with totals above M.
 #[test]
 fn settle_days() {
     let mixed = made(&["days 1 240 mixed"]);
@@ -117,12 +123,20 @@ fn settle_days() {
         "days 630 30 small-pulled",
         "days 0 63 pulled-faults",
     ]);
-    assert!(kept("check_settle", "stdin") == [&mixed[..], &sets, &pulled].concat());
-    let reports = [&mixed, &sets, &pulled].map(|pack| run(&["expect", "settle"], pack));
+    let excess = made(&[
+        "excess",
+        "days 1380 24 excess",
+        "days 1380 24 small-excess",
+        "days 0 33 excess-faults",
+    ]);
+    let packs = [&mixed[..], &sets, &pulled, &excess];
+    assert!(kept("check_settle", "stdin") == packs.concat());
+    let reports = packs.map(|pack| run(&["expect", "settle"], pack));
     assert!(kept("check_settle", "stdout") == reports.concat());
     assert_all_numbers(&mixed, 1..=14);
     assert_all_numbers(&sets, [0, 5, 6, 13, 14]);
     assert_all_numbers(&pulled, PULLED_NUMBERS);
+    assert_all_numbers(&excess, EXCESS_NUMBERS);
     for reports in reports {
         let reports = String::from_utf8(reports).unwrap();
         for count in [1, 64] {
@@ -145,19 +159,21 @@ fn counts_and_numbers(mut pack: &[u8]) -> (BTreeSet<(u8, u32)>, BTreeSet<u32>) {
     (counts, numbers)
 }
 
-/// Lines of both sides with every count of steps, and every refusal of a line; then lines with sets and with pulled
-/// bids.
+/// Lines of both sides with every count of steps, and every refusal of a line; then lines with sets, with pulled bids
+/// and with totals above M.
 #[test]
 fn cut_lines() {
     let lines = made(&["lines 1 1000"]);
     let sets = made(&["lines 1 96 sets"]);
     let pulled = made(&["lines 1 183 pulled"]);
-    let pack = [&lines[..], &sets, &pulled].concat();
+    let excess = made(&["lines 1 93 excess", "excess-lines"]);
+    let pack = [&lines[..], &sets, &pulled, &excess].concat();
     assert!(kept("check_cut", "stdin") == pack);
     assert!(kept("check_cut", "stdout") == run(&["expect", "cut"], &pack));
     assert_eq!(counts_and_numbers(&sets).1, [6, 18].into());
-    let refused = counts_and_numbers(&pulled).1;
-    assert_eq!(refused, (6..=13).chain([18]).collect());
+    let refused = [&pulled, &excess].map(|pack| counts_and_numbers(pack).1);
+    assert_eq!(refused[0], [6, 7, 8, 9, 10, 11, 13, 18].into());
+    assert_eq!(refused[1], [6, 8, 10, 11, 12, 13, 18].into());
     let (counts, numbers) = counts_and_numbers(&lines);
     // A withdrawal has no hedge, so its steps are at most 55.
     let most = MOST_STEPS as u32;
@@ -181,7 +197,7 @@ fn steps() {
     assert!(kept("steps", "stdout") == run(&["steps"], &day));
 }
 
-/// Days without fault, and damaged ones of every number; then days with sets and with pulled bids.
+/// Days without fault, and damaged ones of every number; then days with sets, with pulled bids and with totals above M.
 #[test]
 fn steps_days() {
     let small = made(&["days 2300 96 small"]);
@@ -190,17 +206,22 @@ fn steps_days() {
     let set_faults = made(&["days 0 34 set-faults"]);
     let pulled = made(&["days 2550 30 small-pulled"]);
     let pulled_faults = made(&["days 0 41 pulled-faults"]);
+    let excess = made(&["days 7980 30 small-excess"]);
+    let excess_limits = made(&["excess", "days 0 33 excess-faults"]);
     let with_sets = [&sets[..], &set_faults].concat();
     let with_pulled = [&pulled[..], &pulled_faults].concat();
-    let pack = [&small[..], &damaged, &with_sets, &with_pulled].concat();
+    let with_excess = [&excess[..], &excess_limits].concat();
+    let pack = [&small[..], &damaged, &with_sets, &with_pulled, &with_excess].concat();
     assert!(kept("check_steps", "stdin") == pack);
     assert!(kept("check_steps", "stdout") == run(&["expect", "steps"], &pack));
     assert_eq!(numbers(&small), "0\n".repeat(96));
     assert_eq!(numbers(&sets), "0\n".repeat(72));
     assert_eq!(numbers(&pulled), "0\n".repeat(30));
+    assert_eq!(numbers(&excess), "0\n".repeat(30));
     assert_all_numbers(&damaged, 0..=14);
     assert_all_numbers(&set_faults, [0, 5, 6, 13, 14]);
     assert_all_numbers(&pulled_faults, PULLED_NUMBERS);
+    assert_all_numbers(&excess_limits, EXCESS_NUMBERS);
 }
 
 /// The parts that `check_line_parts` prints, of its day and of parts of its buffer that are refused as days.

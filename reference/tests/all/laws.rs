@@ -1,11 +1,11 @@
-//! Demand 3 (01 "Totals and book", "Matching") on generated days.
+//! Demand 3 (01 "Totals and book", "Matching") and what 02 F-2 makes of it, on generated days.
 
 use crate::{book_of, law_days, line_count};
 use reference::cut::cut;
 use reference::layout::*;
 use reference::line_part::line_part;
 use reference::matching::pair;
-use reference::quantities::{operating_totals, pricing_totals};
+use reference::quantities::{effective_actual, operating_totals, pricing_totals};
 use reference::view::{view, DayView, View};
 
 #[test]
@@ -17,15 +17,29 @@ fn steps_and_quantities_add_up() {
             check_cut(line_part(&day, k as u64), &steps);
             let widths: u32 = steps.iter().map(|v| v.width).sum();
             assert_eq!(widths, line.greatest_break());
-            for s in 0..SCHEDULES {
-                let sum = |of: fn(&View) -> BySchedule<u32>| {
-                    steps.iter().map(|v| u64::from(of(v)[s])).sum()
-                };
-                assert_eq!(pricing_totals(line)[s], sum(|v| v.pricing));
-                assert_eq!(operating_totals(line)[s], sum(|v| v.operating));
-            }
+            check_totals(line, &steps);
         }
     }
+}
+
+/// Steps and the excess, which each step's view has, add up to the totals. The excess isn't constrained on.
+fn check_totals(line: Line, steps: &[View]) {
+    let last = steps.last().unwrap();
+    assert!(steps.iter().all(|v| v.excess == last.excess));
+    for s in 0..SCHEDULES {
+        let sum = |of: fn(&View) -> BySchedule<u32>| -> u64 {
+            steps.iter().map(|v| u64::from(of(v)[s])).sum()
+        };
+        let pricing = sum(|v| v.pricing) + u64::from(last.excess.pricing[s]);
+        assert_eq!(pricing_totals(line)[s], pricing);
+        let operating = sum(|v| v.operating);
+        let excess = u64::from(last.excess.operating[s]);
+        assert_eq!(operating_totals(line)[s], operating + excess);
+        assert!(sum(|v| v.constrained_on) <= operating_totals(line)[s] - excess);
+    }
+    let actual: u32 = steps.iter().map(|v| v.actual).sum();
+    assert_eq!(effective_actual(line), actual + last.excess.actual);
+    assert!(last.excess.actual <= last.excess.operating[SCHEDULES - 1]);
 }
 
 /// The cutter's ends and flags are the view's, and a width is an end less the one before.

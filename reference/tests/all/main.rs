@@ -1,19 +1,24 @@
 //! Tests of the reference implementation. Expected figures are those of document 01 and the functional design.
 
+mod excess;
 mod figures;
 mod kept;
 mod laws;
 mod programs;
 mod pulled;
 mod reach;
+mod reach_excess;
 mod reach_pulled;
 mod reach_sets;
+mod reach_sides;
 mod refusals;
 mod second;
 mod sets;
+mod worked;
 
-use reference::generate::{pulled_day, set_day, valid_day};
-use reference::layout::book_length;
+use reference::generate::{excess_day, pulled_day, set_day, valid_day};
+use reference::layout::{book_length, LINES_OFFSET};
+use reference::refusal::{cut_number, day_number, settle_number, view_number};
 use reference::settle::settle;
 
 /// What the settling program prints for K10.
@@ -21,6 +26,17 @@ const K10_REPORT: &str = "day 1
 7 3 INJ 2 0 20000000 0 -10000000 0
 total 0 20000000 0 -10000000 0
 adjusted 0 10000000 0 0 0
+";
+
+/// What the step program prints for K10's line and its first step. Worked out by hand from 01's definitions.
+const K10_FIRST_STEP: &str = "line 0 7 3 INJ 2
+step 0 1000 1000 1000
+1 20000 0 1000 1000 0 1000 0 0 0 0 0
+2 20000 0 1000 1000 0 1000 0 0 0 0 0
+3 20000 0 1000 1000 0 1000 0 0 0 0 0
+4 20000 0 1000 1000 0 1000 0 0 0 0 0
+5 20000 0 1000 1000 0 1000 0 0 0 0 0
+matches 0 0 0 0 0 0 0 0 0 0
 ";
 
 /// Generated days whose lines are accredited in all schedules or in none.
@@ -38,9 +54,17 @@ fn pulled_days() -> impl Iterator<Item = Vec<u8>> {
     (0..300).map(pulled_day)
 }
 
+/// Days with totals above M, in part with accreditation by schedule or pulled bids.
+fn excess_days() -> impl Iterator<Item = Vec<u8>> {
+    (0..300).map(excess_day)
+}
+
 /// Generated days that every law, and the second computation, is tried on.
 fn law_days() -> impl Iterator<Item = Vec<u8>> {
-    valid_days().chain(set_days()).chain(pulled_days())
+    valid_days()
+        .chain(set_days())
+        .chain(pulled_days())
+        .chain(excess_days())
 }
 
 fn line_count(day: &[u8]) -> usize {
@@ -52,4 +76,14 @@ fn book_of(day: &[u8]) -> Vec<u8> {
     let mut book = vec![0; book_length(line_count(day))];
     assert_eq!(settle(day, &mut book), 0);
     book
+}
+
+/// The number of a day of one line, and those of settling, view and cutter.
+fn numbers(day: &[u8]) -> [u32; 4] {
+    [
+        day_number(day),
+        settle_number(day, 152),
+        view_number(day, 0, 0),
+        cut_number(&day[LINES_OFFSET..]),
+    ]
 }

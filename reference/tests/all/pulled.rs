@@ -1,35 +1,17 @@
 //! Bids pulled in a reschedule (02 F-6): prices and flags in their schedules, and what they leave as it is.
 
-use crate::pulled_days;
+use crate::{numbers, pulled_days};
 use reference::cut::{cut, Cut};
 use reference::generate::{k10_pulled, line, pulled_line};
 use reference::k10::k10;
 use reference::layout::*;
-use reference::refusal::*;
+use reference::refusal::{day_number, line_part_number};
 use reference::report::{settle_report, steps_report};
 use reference::view::{DayView, View};
 use std::collections::BTreeMap;
 
-/// Days with the figures of an implementation by other hands than this one and the proved code.
-#[test]
-fn worked_days() {
-    macro_rules! worked {
-        ($($name:literal)*) => {
-            [$([
-                &include_bytes!(concat!("../worked/", $name, ".day"))[..],
-                include_bytes!(concat!("../worked/", $name, ".report")),
-                include_bytes!(concat!("../worked/", $name, ".steps")),
-            ]),*]
-        };
-    }
-    for [day, report, steps] in worked!("F-6-1" "F-6-2" "F-6-3") {
-        assert_eq!(settle_report(day).as_bytes(), report);
-        assert_eq!(steps_report(day).as_bytes(), steps);
-    }
-}
-
 /// Puts a bid, its other slots 0.
-fn put_bid(line: &mut [u8], bid: usize, steps: &[(u32, u32)]) {
+pub fn put_bid(line: &mut [u8], bid: usize, steps: &[(u32, u32)]) {
     put_word(line, count_place(bid), steps.len() as u32);
     for slot in 0..BID_SLOTS {
         let (end, price) = steps.get(slot).copied().unwrap_or((0, 0));
@@ -86,6 +68,7 @@ step 2 3000 1000 0
 4 15000 1 0 0 0 0 0 0 0 0 0
 5 35000 1 0 0 0 0 0 0 0 0 0
 matches 0 0 0 0 0 0 0 0 0 0
+excess pricing 0 0 0 0 0 operating 0 0 0 0 0 actual 0
 ";
 
 const CLAWED_BACK_REPORT: &str = "day 1
@@ -256,12 +239,11 @@ const WORDS: &[(usize, u32, u32)] = &[
     (price_place(1, 0), 1, 10),
     (price_place(1, 0), PRICE_LIMIT + 1, 10),
     (price_place(4, 10), u32::MAX, 10),
-    (break_place(0, 1), 2000, 0),
-    (break_place(0, 1), 1999, 12), // O(2) is 2000
-    (operating_place(4, 4), 1500, 0),
-    (operating_place(4, 4), 1501, 12),
-    (pricing_place(4, 4), 2000, 0),
-    (pricing_place(4, 4), 2001, 12),
+    (break_place(0, 1), 1001, 0), // the greatest operating total is 2000
+    (operating_place(4, 4), 2500, 0),
+    (operating_place(4, 4), 2501, 12),
+    (pricing_place(4, 4), 3000, 0),
+    (pricing_place(4, 4), 3001, 12),
     (actual_place(4), QUANTITY_LIMIT + 1, 13),
 ];
 
@@ -270,13 +252,7 @@ fn limits_with_four_bids_pulled() {
     for &(place, value, number) in WORDS {
         let mut day = k10_pulled(0b11110);
         put_word(&mut day, LINES_OFFSET / 4 + place, value);
-        let numbers = [
-            day_number(&day),
-            settle_number(&day, 152),
-            view_number(&day, 0, 0),
-            cut_number(&day[64..]),
-        ];
-        assert_eq!(numbers, [number; 4], "word {place} as {value}");
+        assert_eq!(numbers(&day), [number; 4], "word {place} as {value}");
         assert_eq!(line_part_number(&day, 0), 0);
     }
 }
@@ -296,10 +272,11 @@ fn limits_with_a_lowered_m() {
         put_bid(&mut day[LINES_OFFSET..], 2, &[]);
         [with_bid, day_number(&day)]
     };
-    assert_eq!(numbers(2500, 2500), [0, 0]);
-    assert_eq!(numbers(2501, 2500), [0, 11]);
-    assert_eq!(numbers(3000, 2501), [0, 11]);
-    assert_eq!(numbers(2500, 2501), [0, 12]);
-    assert_eq!(numbers(0, 3000), [0, 12]);
-    assert_eq!(numbers(3001, 3000), [11, 11]);
+    assert_eq!(numbers(2500, 3500), [0, 0]);
+    assert_eq!(numbers(2501, 3500), [0, 11]);
+    assert_eq!(numbers(3000, 3501), [0, 11]);
+    assert_eq!(numbers(2500, 3501), [0, 12]);
+    assert_eq!(numbers(0, 4000), [0, 12]);
+    assert_eq!(numbers(0, 4001), [12, 12]);
+    assert_eq!(numbers(3001, 4000), [11, 11]);
 }

@@ -4,6 +4,7 @@ use crate::kept::entries;
 use crate::{line_count, valid_days};
 use reference::generate::{line, line_with_steps};
 use reference::layout::*;
+use reference::quantities::{operating_totals, pricing_totals};
 use reference::refusal::{cut_number, day_number};
 use reference::view::{DayView, View};
 use std::collections::BTreeSet;
@@ -176,9 +177,10 @@ fn generated_days_reach() {
     assert_eq!(not_reached(valid_days()), [""; 0]);
 }
 
-/// Days with a pulled bid, others with a set of schedules, and those of document 01 alone.
+/// Days with a total above M, others with a pulled bid, others with a set of schedules, and those of document 01 alone.
 #[derive(PartialEq, Eq)]
 pub enum Kind {
+    Excess,
     Pulled,
     Sets,
     Plain,
@@ -189,7 +191,9 @@ impl Kind {
         let is_pulled = |line: Line| (0..SCHEDULES).any(|bid| line.count(bid) == 0);
         let is_set = |line: Line| line.word(ACCREDITATION) >= EMPTY_SET;
         let day = Day::new(day);
-        if day.lines().any(is_pulled) {
+        if day.lines().any(has_excess) {
+            Kind::Excess
+        } else if day.lines().any(is_pulled) {
             Kind::Pulled
         } else if day.lines().any(is_set) {
             Kind::Sets
@@ -197,6 +201,18 @@ impl Kind {
             Kind::Plain
         }
     }
+}
+
+/// By how much a line's pricing and operating totals are above M.
+pub fn excess_of(line: Line) -> [BySchedule<u64>; 2] {
+    let most = u64::from(line.greatest_break());
+    let above = |totals: BySchedule<u64>| totals.map(|total| total.saturating_sub(most));
+    [pricing_totals(line), operating_totals(line)].map(above)
+}
+
+/// Some pricing or operating total is above M.
+pub fn has_excess(line: Line) -> bool {
+    excess_of(line).as_flattened().iter().any(|&x| x > 0)
 }
 
 /// The accepted days of a kind in the pack that a program is run on.

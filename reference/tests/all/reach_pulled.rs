@@ -2,7 +2,8 @@
 
 use crate::kept::entries;
 use crate::pulled_days;
-use crate::reach::{accepted, unhedged, Kind, Met};
+use crate::reach::{unhedged, Kind, Met};
+use crate::reach_sides::*;
 use reference::layout::*;
 use reference::matching::pair;
 use reference::refusal::cut_number;
@@ -157,31 +158,15 @@ fn pulled(line: Line) -> Vec<usize> {
     (0..SCHEDULES).filter(|&s| line.is_pulled(s)).collect()
 }
 
-fn names<T>(of: &[(&'static str, T)]) -> Vec<&'static str> {
-    of.iter().map(|(what, _)| *what).collect()
-}
-
 /// What injections and withdrawals met.
 #[derive(Default)]
-struct Sides {
+struct WithPulled {
     met: [Met; 2],
     /// Sides and sets of pulled schedules.
     sets: BTreeSet<(u32, Vec<usize>)>,
 }
 
-impl Sides {
-    fn line(&mut self, line: Line) {
-        let met = &mut self.met[line.side() as usize];
-        for s in pulled(line) {
-            let source = (0..s).rfind(|&bid| !line.is_pulled(bid)).unwrap();
-            let bid = Bid { line, s, source };
-            for (what, is_met) in OF_BIDS.iter().chain(OF_HEDGES) {
-                met.note(what, is_met(&bid));
-            }
-        }
-        self.sets.insert((line.side() as u32, pulled(line)));
-    }
-
+impl WithPulled {
     fn step(&mut self, step: &Step) {
         let met = &mut self.met[step.line.side() as usize];
         for (what, is_met) in OF_STEPS {
@@ -192,11 +177,32 @@ impl Sides {
     /// One side's unhedged steps, each with its line, in schedule s.
     fn share(&mut self, side: Side, steps: &[(Line, View)], s: usize) {
         let in_total = |(line, v): &(Line, View)| line.is_pulled(s) && v.revised[s] != 0;
-        let has_share = |(_, v): &(Line, View)| {
-            v.flag[s] == 0 && v.finals[s] < v.revised[s] && v.finals[s] > v.initial[s]
-        };
-        let is_met = steps.iter().any(in_total) && steps.iter().any(has_share);
+        let is_met = steps.iter().any(in_total) && steps.iter().any(|(_, v)| has_share(v, s));
         self.met[side as usize].note(SHARE, is_met);
+    }
+}
+
+impl Sides for WithPulled {
+    const KIND: Kind = Kind::Pulled;
+
+    fn wanted() -> Wanted {
+        Wanted {
+            of_lines: names(OF_BIDS),
+            of_hedges: names(OF_HEDGES),
+            of_days: [names(OF_STEPS), vec![SHARE]].concat(),
+        }
+    }
+
+    fn line(&mut self, line: Line) {
+        let met = &mut self.met[line.side() as usize];
+        for s in pulled(line) {
+            let source = (0..s).rfind(|&bid| !line.is_pulled(bid)).unwrap();
+            let bid = Bid { line, s, source };
+            for (what, is_met) in OF_BIDS.iter().chain(OF_HEDGES) {
+                met.note(what, is_met(&bid));
+            }
+        }
+        self.sets.insert((line.side() as u32, pulled(line)));
     }
 
     fn day(&mut self, day: &[u8]) {
@@ -221,47 +227,29 @@ impl Sides {
         views.day.lines().for_each(|line| self.line(line));
     }
 
-    /// That each side met what is wanted, and each of the 15 sets of schedules beside the empty one.
-    fn check(&self, what: &str, wanted: &[&'static str]) {
-        let of_injections = [wanted, &names(OF_HEDGES)].concat();
-        let missing = [
-            self.met[0].missing(&of_injections),
-            self.met[1].missing(wanted),
-        ];
-        assert_eq!(missing, [[""; 0]; 2], "{what}");
+    fn met(&self) -> &[Met; 2] {
+        &self.met
+    }
+
+    /// Each of the 15 sets of schedules beside the empty one.
+    fn check_others(&self, what: &str) {
         assert_eq!(self.sets.len(), 2 * 16, "{what}");
     }
 }
 
-fn check_days(what: &str, days: impl IntoIterator<Item = Vec<u8>>) {
-    let mut sides = Sides::default();
-    days.into_iter().for_each(|day| sides.day(&day));
-    let wanted = [names(OF_BIDS), names(OF_STEPS), vec![SHARE]].concat();
-    sides.check(what, &wanted);
-}
-
 #[test]
 fn pulled_days_reach() {
-    check_days("generated", pulled_days());
+    check_days::<WithPulled>("generated", pulled_days());
 }
 
-/// The days with pulled bids that the programs `check_settle` and `check_steps` are run on.
 #[test]
 fn kept_days_reach() {
-    for program in ["check_settle", "check_steps"] {
-        check_days(program, accepted(program, Kind::Pulled));
-    }
+    check_kept_days::<WithPulled>();
 }
 
-/// The lines that `check_cut` is run on.
 #[test]
 fn kept_lines_reach() {
-    let mut sides = Sides::default();
-    let lines = entries("check_cut").into_iter();
-    for line in lines.filter(|line| cut_number(line) == 0) {
-        sides.line(Line::new(&line).unwrap());
-    }
-    sides.check("check_cut", &names(OF_BIDS));
+    check_kept_lines::<WithPulled>();
 }
 
 /// Each slot of a pulled bid is the one that isn't 0 in some line that `check_cut` refuses with 10.

@@ -1,10 +1,11 @@
-//! Refusals 1 to 18 (01 "Where each refusal is checked", 02 F-7 and F-6).
+//! Refusals 1 to 18 (01 "Where each refusal is checked", 02 F-7, F-6 and F-2).
 
-use crate::{book_of, line_count, valid_days};
+use crate::{book_of, line_count, numbers, valid_days};
 use reference::cut::{cut, Cut};
 use reference::generate::{
-    damaged_day, damaged_day_and_number, damaged_line_and_number, pulled_fault_day_and_number,
-    pulled_fault_line_and_number, set_fault_day_and_number, set_fault_line_and_number,
+    damaged_day, damaged_day_and_number, damaged_line_and_number, excess_fault_day_and_number,
+    excess_fault_line_and_number, pulled_fault_day_and_number, pulled_fault_line_and_number,
+    set_fault_day_and_number, set_fault_line_and_number,
 };
 use reference::k10::k10;
 use reference::layout::*;
@@ -39,34 +40,44 @@ fn damaged_lines_have_the_numbers_of_their_faults() {
     assert_eq!(met, [0, 6, 7, 8, 9, 10, 11, 12, 13, 18].into());
 }
 
-#[test]
-fn set_faults_have_their_numbers() {
+/// A day or a line, and its number.
+type Damaged = fn(u64) -> (Vec<u8>, u32);
+
+/// That days and lines of the first seeds have the numbers told, and which those are.
+fn numbers_met(seeds: u64, [of_days, of_lines]: [Damaged; 2]) -> [BTreeSet<u32>; 2] {
     let (mut days, mut lines) = (BTreeSet::new(), BTreeSet::new());
-    for seed in 0..500 {
-        let (day, number) = set_fault_day_and_number(seed);
+    for seed in 0..seeds {
+        let (day, number) = of_days(seed);
         assert_eq!(day_number(&day), number, "seed {seed}");
         days.insert(number);
-        let (line, number) = set_fault_line_and_number(seed);
+        let (line, number) = of_lines(seed);
         assert_eq!(cut_number(&line), number, "seed {seed}");
         lines.insert(number);
     }
-    assert_eq!(days, [0, 5, 6, 13, 14].into());
-    assert_eq!(lines, [0, 6, 18].into());
+    [days, lines]
+}
+
+#[test]
+fn set_faults_have_their_numbers() {
+    let met = numbers_met(500, [set_fault_day_and_number, set_fault_line_and_number]);
+    assert_eq!(met[0], [0, 5, 6, 13, 14].into());
+    assert_eq!(met[1], [0, 6, 18].into());
 }
 
 #[test]
 fn pulled_faults_have_their_numbers() {
-    let (mut days, mut lines) = (BTreeSet::new(), BTreeSet::new());
-    for seed in 0..1500 {
-        let (day, number) = pulled_fault_day_and_number(seed);
-        assert_eq!(day_number(&day), number, "seed {seed}");
-        days.insert(number);
-        let (line, number) = pulled_fault_line_and_number(seed);
-        assert_eq!(cut_number(&line), number, "seed {seed}");
-        lines.insert(number);
-    }
-    assert_eq!(days, [0, 6, 7, 8, 9, 10, 11, 12, 13, 14].into());
-    assert_eq!(lines, [0, 6, 7, 8, 9, 10, 11, 12, 13, 18].into());
+    let damaged: [Damaged; 2] = [pulled_fault_day_and_number, pulled_fault_line_and_number];
+    let met = numbers_met(1500, damaged);
+    assert_eq!(met[0], [0, 6, 7, 8, 9, 10, 11, 13, 14].into());
+    assert_eq!(met[1], [0, 6, 7, 8, 9, 10, 11, 13, 18].into());
+}
+
+#[test]
+fn excess_faults_have_their_numbers() {
+    let damaged: [Damaged; 2] = [excess_fault_day_and_number, excess_fault_line_and_number];
+    let met = numbers_met(1500, damaged);
+    assert_eq!(met[0], [0, 6, 8, 10, 11, 12, 13, 14].into());
+    assert_eq!(met[1], [0, 6, 8, 10, 11, 12, 13, 18].into());
 }
 
 /// Accreditation words on both sides of each limit, and the number of settling, view and cutter.
@@ -92,13 +103,7 @@ fn accreditation_limits() {
     for &(accreditation, number) in ACCREDITATIONS {
         let mut day = k10();
         put_word(&mut day, LINE + 3, accreditation);
-        let numbers = [
-            day_number(&day),
-            settle_number(&day, 152),
-            view_number(&day, 0, 0),
-            cut_number(&day[64..]),
-        ];
-        assert_eq!(numbers, [number; 4], "accreditation {accreditation}");
+        assert_eq!(numbers(&day), [number; 4], "accreditation {accreditation}");
         assert_eq!(line_part_number(&day, 0), 0);
     }
 }
@@ -153,13 +158,15 @@ const K10_WORDS: &[(usize, u32, u32)] = &[
     (LINE + 28, 12, 7),
     (LINE + 97, 0, 10),
     (LINE + 97, u32::MAX, 7),
-    (LINE + 124, 2000, 0),
-    (LINE + 124, 2001, 12),
-    (LINE + 134, 2000, 0),
-    (LINE + 134, 2001, 12),
-    (LINE + 139, 2000, 0),
-    (LINE + 139, 2001, 12),
-    (LINE + 159, 1501, 12),
+    (LINE + 124, 2001, 0),
+    (LINE + 124, 3000, 0),
+    (LINE + 124, 3001, 12),
+    (LINE + 134, 3000, 0),
+    (LINE + 134, 3001, 12),
+    (LINE + 139, 3000, 0),
+    (LINE + 139, 3001, 12),
+    (LINE + 159, 2500, 0),
+    (LINE + 159, 2501, 12),
     (LINE + 164, 200_000_000, 0),
     (LINE + 164, 200_000_001, 13),
 ];

@@ -1,7 +1,7 @@
 //! A second computation, slow and close to the sentences of documents 01 and 02, and its comparison with the first.
 
-use crate::{book_of, law_days};
-use reference::view::{DayView, View};
+use crate::{book_of, excess_days, law_days};
+use reference::view::{DayView, Excess, View};
 use std::collections::BTreeSet;
 
 type Five = [i128; 5];
@@ -16,9 +16,18 @@ fn words(day: &[u8]) -> Vec<i128> {
     day.chunks(4).map(word).collect()
 }
 
-fn ends(line: &[i128]) -> BTreeSet<i128> {
+fn breaks(line: &[i128]) -> BTreeSet<i128> {
     let used = |bid: &[i128]| bid[1..=bid[0] as usize].to_vec();
-    let mut ends: BTreeSet<i128> = line[5..120].chunks(23).flat_map(used).collect();
+    line[5..120].chunks(23).flat_map(used).collect()
+}
+
+/// M.
+fn greatest_break(line: &[i128]) -> i128 {
+    *breaks(line).last().unwrap()
+}
+
+fn ends(line: &[i128]) -> BTreeSet<i128> {
+    let mut ends = breaks(line);
     if line[4] != 0 {
         ends.insert(line[4]);
     }
@@ -59,9 +68,36 @@ fn matches(c: Five) -> [Five; 5] {
     m
 }
 
+/// The totals of a line: of the operating and pricing quantities of each schedule, and the effective actual.
+struct Totals {
+    operating: Five,
+    pricing: Five,
+    actual: i128,
+}
+
+impl Totals {
+    fn of(line: &[i128]) -> Totals {
+        Totals {
+            operating: five(|s| line[135 + 5 * s..140 + 5 * s].iter().sum()),
+            pricing: five(|s| pricing_total(line, s)),
+            actual: (0..5).map(|i| line[155 + i].min(line[160 + i])).sum(),
+        }
+    }
+
+    /// What `to` makes of each.
+    fn each(&self, to: impl Fn(i128) -> i128) -> Totals {
+        Totals {
+            operating: self.operating.map(&to),
+            pricing: self.pricing.map(&to),
+            actual: to(self.actual),
+        }
+    }
+}
+
 struct Terms<'a> {
     market: &'a [i128],
     line: &'a [i128],
+    totals: Totals,
 }
 
 impl Terms<'_> {
@@ -121,13 +157,12 @@ impl Terms<'_> {
 
     /// The view of a step, its matches and payments still 0.
     fn quantities(&self, lower: i128, upper: i128) -> View {
-        let line = self.line;
-        let on_step = |q: i128| 0.max(q.min(upper) - lower);
+        let on_step = self.totals.each(|q| 0.max(q.min(upper) - lower));
+        let most = greatest_break(self.line);
+        let excess = self.totals.each(|q| 0.max(q - most));
         let prices = self.prices(upper);
         let p = prices.map(|(price, _)| price);
-        let o = five(|s| on_step(line[135 + 5 * s..140 + 5 * s].iter().sum()));
-        let e = five(|s| on_step(pricing_total(line, s)));
-        let a = on_step((0..5).map(|i| line[155 + i].min(line[160 + i])).sum());
+        let (o, e, a) = (on_step.operating, on_step.pricing, on_step.actual);
         let agino_5 = 0.max(o[4] - a);
         let agino = five(|s| 0.max(agino_5 - (o[4] - o[s..].iter().min().unwrap())));
         let msiq = five(|s| self.msiq(&p, &e, s));
@@ -144,6 +179,11 @@ impl Terms<'_> {
             agino: small(agino),
             msiq: small(msiq),
             constrained_on: small(c),
+            excess: Excess {
+                operating: small(excess.operating),
+                pricing: small(excess.pricing),
+                actual: excess.actual as u32,
+            },
             ..View::default()
         }
     }
@@ -217,10 +257,12 @@ fn put_finals(clawback: bool, steps: &mut [([bool; 5], &mut View)], s: usize) {
     }
 }
 
-fn views(day: &[i128]) -> Vec<Vec<View>> {
+/// The views of all steps, where each line has these totals.
+fn views(day: &[i128], totals: fn(&[i128]) -> Totals) -> Vec<Vec<View>> {
     let terms = |line| Terms {
         market: &day[4..16],
         line,
+        totals: totals(line),
     };
     let lines: Vec<Terms> = day[16..].chunks(165).map(terms).collect();
     let steps_of = |line: &Terms| {
@@ -277,10 +319,34 @@ fn book(day: &[i128], views: &[Vec<View>]) -> Vec<u8> {
 fn second_computation_agrees() {
     for day in law_days() {
         let words = words(&day);
-        let second = views(&words);
+        let second = views(&words, Totals::of);
         let first = DayView::new(&day);
         for (line, steps) in first.day.lines().zip(&second) {
             assert_eq!(&first.line(line).collect::<Vec<View>>(), steps);
+        }
+        assert_eq!(book_of(&day), book(&words, &second));
+    }
+}
+
+/// "Never constrained on and never paid" (02 F-2): but for the excess all figures, and the book, are those of totals of
+/// M where they are above it.
+#[test]
+fn figures_are_those_of_totals_up_to_m() {
+    let up_to_most = |line: &[i128]| {
+        let most = greatest_break(line);
+        Totals::of(line).each(|q| q.min(most))
+    };
+    for day in excess_days() {
+        let words = words(&day);
+        let second = views(&words, up_to_most);
+        let first = DayView::new(&day);
+        for (line, steps) in first.day.lines().zip(&second) {
+            let without_excess = |v| View {
+                excess: Excess::default(),
+                ..v
+            };
+            let found: Vec<View> = first.line(line).map(without_excess).collect();
+            assert_eq!(&found, steps);
         }
         assert_eq!(book_of(&day), book(&words, &second));
     }

@@ -176,16 +176,17 @@ module _ {w : List ℕ} {n : ℕ} {at : Sweep} {e g : ℕ} {es ps : List ℕ} {m
 
   pub swept-all : {x y : List ℕ} → x ≡ (runWord n (m .first) ∷ runWord n (m .second) ∷ runWord n (m .third) ∷ runWord n (m .fourth) ∷ runWord n (m .fifth) ∷ [])
       → y ≡ five (λ s. ones (Rattle.rules.specs.Fold.at x s))
-      → _≡_ {A = Cut} (record { number = 0; count = n; ends = es; prices = ps; flags = x; missing = y }) (cutOf w)
+      → _≡_ {A = Cut} (record { flags = x; number = 0; count = n; missing = y; ends = es; prices = ps; reserved = 0 }) (cutOf w)
   unfolding cutOf missingTo
   swept-all f k =
       rw (k, f, v .missing)
       (λ i.
       record {
+        flags = word-all 0 i ∷ word-all 1 i ∷ word-all 2 i ∷ word-all 3 i ∷ word-all 4 i ∷ [];
         number = 0;
         count = all i;
+        missing = ones-all 0 i ∷ ones-all 1 i ∷ ones-all 2 i ∷ ones-all 3 i ∷ ones-all 4 i ∷ [];
         ends = ends-all i;
         prices = (v .prices ∙ joined-same 5 (rowTo w n) (priceRow w) row-all) i;
-        flags = word-all 0 i ∷ word-all 1 i ∷ word-all 2 i ∷ word-all 3 i ∷ word-all 4 i ∷ [];
-        missing = ones-all 0 i ∷ ones-all 1 i ∷ ones-all 2 i ∷ ones-all 3 i ∷ ones-all 4 i ∷ [];
+        reserved = 0;
       })

@@ -1,7 +1,9 @@
 -- `line_limits::limits_number` meets its contract.
+use Prim.Native.Nat.{ℕ, _+_}
 use mathlib.Core.Path.{_∙_, ap}
 use denote.Ref.{now}
 use borrow.Author.Needs.{needs}
+use Rattle.rules.specs.Layout.{excessMost}
 use Rattle.laws.specs.Folds.{part-stops, part-passes}
 use Rattle.line_limits.specs.Faults.{hedgeFault, limitsFault}
 use Rattle.line_limits.proofs.Laws.{totals-are}
@@ -19,15 +21,16 @@ returns c =
 returns-2 : tie.Need-returns-2
 unfolding limitsFault
 returns-2 c =
-    let after-wide = c .before .before .before .before in
-    let after-greatest-break = after-wide .before .before .before in
+    let after-total-most = c .before .before .before .before in
+    let after-greatest-break = after-total-most .before .before .before in
     let at-start = after-greatest-break .before .before in
-    let equal′ = after-wide .before .before .hedge-number .ensures
+    let equal′ = after-total-most .before .before .hedge-number .ensures
     ∙ ap (hedgeFault (now (at-start .args .line))) (after-greatest-break .greatest-break .ensures) in
-    let totals-are′ = totals-are _ _ _ _ _ (after-wide .wide .ensures .0 ∙ after-greatest-break .greatest-break .ensures)
+    let totals-are′ = totals-are _ _ _ _ _
+    (after-total-most .total-most .ensures ∙ ap (λ (m : ℕ). m + excessMost) (after-greatest-break .greatest-break .ensures))
     (c .before .before .before .pricing-totals .ensures) (c .before .before .operating-totals .ensures) in
     let part-stops′ = part-stops _ _ _ (c .before .totals-number .ensures ∙ totals-are′) (c .if2 .taken) in
-    part-passes _ _ _ _ equal′ (after-wide .before .if1 .left) part-stops′
+    part-passes _ _ _ _ equal′ (after-total-most .before .if1 .left) part-stops′
 
 returns-3 : tie.Need-returns-3
 unfolding limitsFault
@@ -38,7 +41,8 @@ returns-3 c =
     let equal′ = after-pricing-totals .before .before .before .hedge-number .ensures
     ∙ ap (hedgeFault (now (at-start .args .line))) (after-greatest-break .greatest-break .ensures) in
     let totals-are′ = totals-are _ _ _ _ _
-    (after-pricing-totals .before .wide .ensures .0 ∙ after-greatest-break .greatest-break .ensures)
+    (after-pricing-totals .before .total-most .ensures
+    ∙ ap (λ (m : ℕ). m + excessMost) (after-greatest-break .greatest-break .ensures))
     (after-pricing-totals .pricing-totals .ensures) (c .before .before .before .operating-totals .ensures) in
     let part-passes′ = part-passes _ _ _ _ (c .before .before .totals-number .ensures ∙ totals-are′) (c .before .if2 .left)
     (c .actuals-number .ensures) in

@@ -180,7 +180,7 @@ base2CallsOn d =
     ∷ number (linePartFault d 1) 0
     ∷ number (linePartFault d 2) 16
     ∷ booked d (replicate 207 170) (replicate 207 170)
-    ∷ record { found = viewFields (viewAnswer d 2 0); expected = 16 ∷ replicate 68 0 }
+    ∷ record { found = viewFields (viewAnswer d 2 0); expected = 16 ∷ replicate 79 0 }
     ∷ []
 
 -- it is accepted; its book, in a lent one a byte longer; its report; every step of every line; every line

@@ -30,6 +30,7 @@ simpleStep sd paid p₁ p₂ c₁ c₂ =
       pricing = replicate 5 0;
       operating = c₁ ∷ replicate 4 c₂;
       actual = c₂;
+      most = 100;
     }
 
 -- In schedule 2, of the injections: line 0, step 0 falls by 6, initial -6 x (9 - 3) = -36, revised -6 x (5 - 3) = -12; step 1 rises by 5, initial and

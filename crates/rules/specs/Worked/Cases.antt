@@ -78,33 +78,39 @@ unfoldable pub viewFields : View → List ℕ
 viewFields v =
     v .number ∷ v .end ∷ v .width ∷ v .actual ∷ v .price ++ v .flag ++ v .operating ++ v .pricing ++ v .agino ++ v .msiq ++ v .constrained ++ v .matches
     ++ map bits64 (v .initial) ++ map bits64 (v .revised) ++ map bits64 (v .modified) ++ map bits64 (v .finals)
+    ++ v .excess .pricing ++ v .excess .operating ++ (v .excess .actual ∷ [])
 
 unfoldable pub cutFields : Cut → List ℕ
-cutFields c = c .number ∷ c .count ∷ c .ends ++ c .prices ++ c .flags ++ c .missing
+cutFields c = c .number ∷ c .count ∷ c .ends ++ c .prices ++ c .flags ++ c .missing ++ (c .reserved ∷ [])
 
 -- a number
 abbrev pub number : ℕ → ℕ → Case
 number n e = record { found = n ∷ []; expected = e ∷ [] }
 
--- the cases of a day d: the lent book b after settling, the report, the view of step j of line k, the cutter's answer for line k
+-- the cases of a day d: the lent book b after settling, the report, the view of step j of line k with the line's excess, the cutter's answer
+-- for line k
 abbrev pub booked : List ℕ → List ℕ → List ℕ → Case
 booked d b e = record { found = bookAfter d b; expected = e }
 
 abbrev pub printed : List ℕ → List ℕ → Case
 printed d e = record { found = reportText d; expected = e }
 
-abbrev pub viewed : List ℕ → ℕ → ℕ → List ℕ → List (List ℕ) → List ℕ → Case
-viewed d k j e r m =
+abbrev pub viewedOver : List ℕ → ℕ → ℕ → List ℕ → List (List ℕ) → List ℕ → List ℕ → List ℕ → ℕ → Case
+viewedOver d k j e r m xp xo xa =
     record {
       found = viewFields (viewAnswer d k j);
       expected =
           0 ∷ e ++ column 0 r ++ column 1 r ++ column 2 r ++ column 3 r ++ column 4 r ++ column 5 r ++ column 6 r ++ m
-          ++ column 7 r ++ column 8 r ++ column 9 r ++ column 10 r;
+          ++ column 7 r ++ column 8 r ++ column 9 r ++ column 10 r ++ xp ++ xo ++ (xa ∷ []);
     }
+
+-- the same of a line without excess
+abbrev pub viewed : List ℕ → ℕ → ℕ → List ℕ → List (List ℕ) → List ℕ → Case
+viewed d k j e r m = viewedOver d k j e r m (replicate 5 0) (replicate 5 0) 0
 
 abbrev pub cutInto : List ℕ → ℕ → List ℕ → List (List ℕ) → List ℕ → List ℕ → Case
 cutInto d k e p f m =
     record {
       found = cutFields (cutAnswer (lineAt d k));
-      expected = 0 ∷ length e ∷ filled 56 e ++ concat (map (filled 56) p) ++ f ++ m;
+      expected = 0 ∷ length e ∷ filled 56 e ++ concat (map (filled 56) p) ++ f ++ m ++ (0 ∷ []);
     }

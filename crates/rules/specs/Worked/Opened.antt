@@ -5,9 +5,9 @@ use Rattle.rules.specs.Refusals.{headerFault, marketPriceFault, markFaul
 use Rattle.rules.specs.Refusals.{totalFault, actualFault, headFault, lineFaultWith, lineFault, lineFaultAt, sameKey, pairFault, keyFault, dayFault, settleFault, viewFault, linePartFault, cutFault}
 use Rattle.rules.specs.Steps.{bidMost, greatestBreak, insert, rising, bidBreaks, hedgePoint, ends, stepCount, upperEnd, lowerEnd, stepFrom, bidStep, source, lastPrice, price, flag}
 use Rattle.rules.specs.Steps.{capped, hedged, holdsIn, accredited, paid}
-use Rattle.rules.specs.Quantities.{pricingTotal, tableTotal, tableActual, allocated, leastFrom, lastAgino, agino, beyond, msiqFrom, msiq, constrained}
+use Rattle.rules.specs.Quantities.{pricingTotal, tableTotal, tableActual, allocated, untaken, leastFrom, lastAgino, agino, beyond, msiqFrom, msiq, constrained}
 use Rattle.rules.specs.Matching.{earlier, rise, fall, takes, leaves, openRises, matchesOf, matched, tenMatches}
-use Rattle.rules.specs.Payments.{operatingOn, pricingOn, actualOn, aginoOn, msiqOn, constrainedOn, onStep, excess, milder, rate, revisedRate, isPaid, initial}
+use Rattle.rules.specs.Payments.{operatingOn, pricingOn, actualOn, excessOf, noExcess, aginoOn, msiqOn, constrainedOn, onStep, beyondBy, milder, rate, revisedRate, isPaid, initial}
 use Rattle.rules.specs.Payments.{givenBack, initialOr, revised, modified, pooledPayment, isPooled, finalPayment, poolTotal}
 use Rattle.rules.specs.Payments.{poolChange, poolBase, poolDiffers, poolOf, stepFinal}
 use Rattle.rules.specs.Days.{stepOf}
@@ -23,9 +23,9 @@ unfolding refuse _orElse_ first before sumTo sumZ mostTo someTo joined listTo su
     marketFault breakFault outOfOrder orderFault priceFault unusedFault bidFault totalFault actualFault headFault lineFaultWith lineFault
     lineFaultAt sameKey pairFault keyFault dayFault settleFault viewFault linePartFault cutFault bidMost greatestBreak insert rising bidBreaks
     hedgePoint ends stepCount upperEnd lowerEnd stepFrom bidStep source lastPrice price flag capped hedged holdsIn accredited paid
-    pricingTotal tableTotal tableActual allocated leastFrom lastAgino agino beyond msiqFrom msiq
+    pricingTotal tableTotal tableActual allocated untaken leastFrom lastAgino agino beyond msiqFrom msiq
     constrained earlier rise fall takes leaves openRises matchesOf matched tenMatches operatingOn pricingOn actualOn
-    aginoOn msiqOn constrainedOn onStep excess milder rate revisedRate isPaid initial givenBack initialOr
+    excessOf noExcess aginoOn msiqOn constrainedOn onStep beyondBy milder rate revisedRate isPaid initial givenBack initialOr
     revised modified pooledPayment isPooled finalPayment stepOf
     poolTotal poolChange poolBase poolDiffers poolOf
     stepFinal linePayment total leastSum adjustedAfter carried adjusted totals adjustedTotal le bookHeader totalPair

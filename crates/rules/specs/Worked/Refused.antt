@@ -2,7 +2,8 @@
 use Prim.Native.Nat.{ℕ}
 use mathlib.Core.List.{List, [], _∷_, _++_}
 use lib.ListN.{replicate, take, drop, set}
-use Rattle.rules.specs.Refusals.{dayFault, settleFault, viewFault, linePartFault, cutFault}
+use Rattle.rules.specs.Layout.{operatingTable}
+use Rattle.rules.specs.Refusals.{totalFault, dayFault, settleFault, viewFault, linePartFault, cutFault}
 use Rattle.rules.specs.Viewing.{viewAnswer}
 use Rattle.rules.specs.Cutting.{cutAnswer}
 use Rattle.rules.specs.Worked.Cases.{Case, concat, bytesOf, linesOf, bid, number, viewFields, cutFields, booked, printed}
@@ -94,7 +95,7 @@ cutterCases w =
     ∷ number (cutFault (w ++ (0 ∷ []))) 18
     ∷ number (cutFault (take 659 (drop 64 (changed limitWords 18 2)))) 18
     ∷ number (cutFault (drop 64 (changed limitWords 18 2))) 6
-    ∷ record { found = cutFields (cutAnswer (take 659 w)); expected = 18 ∷ replicate 347 0 }
+    ∷ record { found = cutFields (cutAnswer (take 659 w)); expected = 18 ∷ replicate 348 0 }
     ∷ []
 
 unfoldable pub answerCases : List ℕ → List Case
@@ -105,23 +106,23 @@ answerCases d =
     ∷ number (linePartFault (take 63 d) 9) 1
     ∷ booked d (replicate 152 170) (replicate 152 170)
     ∷ printed d (linesOf ("refused 4" ∷ []))
-    ∷ record { found = viewFields (viewAnswer d 0 0); expected = 4 ∷ replicate 68 0 }
+    ∷ record { found = viewFields (viewAnswer d 0 0); expected = 4 ∷ replicate 79 0 }
     ∷ []
 
 -- what is met before a line's last bid
 unfoldable pub refusedCases : List Case
 refusedCases = headerCases ++ bidCases ++ orderCases ++ cutterCases (drop 64 limitDay) ++ answerCases (changed limitWords 4 10000001)
 
--- what is met behind it: the day at every limit, accepted; the last bid's last slot; a greatest break one lower, so that hedge and totals are M + 1;
--- a withdrawal with a hedge; a pricing total of M + 1; an operating one, and 13; an actual; equal keys
+-- what is met behind it: the day at every limit, accepted; the last bid's last slot; a greatest break one lower, so that the hedge is M + 1; a
+-- withdrawal with a hedge; a pricing total of M + 1,001; an operating one, and 13; an actual; equal keys
 unfoldable pub limitCases : List Case
 limitCases =
     number (dayFault limitDay) 0
     ∷ number (dayFault (changed limitWords 135 5)) 10
     ∷ number (dayFault (changed limitWords 32 199999999)) 11
     ∷ number (dayFault (changed limitWords 18 1)) 11
-    ∷ number (dayFault (changed limitWords 150 1)) 12
-    ∷ number (dayFault (changed (set limitWords 174 1) 180 200000001)) 12
+    ∷ number (dayFault (changed limitWords 150 1001)) 12
+    ∷ number (dayFault (changed (set limitWords 174 1001) 180 200000001)) 12
     ∷ number (dayFault (changed limitWords 180 200000001)) 13
     ∷ number (dayFault (bytesOf twoWords)) 14
     ∷ []
@@ -159,13 +160,53 @@ pulledCases =
     ∷ number (dayFault (changed pulledWords 135 1)) 10
     ∷ number (dayFault (changed (set pulledWords 66 1) 67 12)) 10
     ∷ number (dayFault (changed pulledWords 32 199999999)) 11
-    ∷ number (dayFault (changed (set pulledWords 20 0) 32 199999999)) 12
+    ∷ number (dayFault (changed (set pulledWords 20 0) 32 199998999)) 12
     ∷ number (cutFault (drop 64 (bytesOf pulledWords))) 0
     ∷ number (cutFault (drop 64 (bytesOf allPulled))) 7
     ∷ number (viewFault (changed pulledWords 45 1) 0 0) 10
     ∷ []
 
+-- document 02, F-2, on the day at every limit, where M is the quantity limit: refusal 12 in schedule s (from 0) with word i of the day changed to v
+unfoldable pub totalAt : ℕ → ℕ → ℕ → ℕ
+totalAt s i v = totalFault (operatingTable (drop 64 (changed limitWords i v))) (drop 64 (changed limitWords i v)) s
+
+-- each pricing total, then each operating one, at M + 1,000 and at M + 1,001; of the day: both, entries above the quantity limit, five words that
+-- add up to 2^32, 12 before 13; the cutter's and the view's number
+unfoldable pub excessCases : List Case
+excessCases =
+    number (totalAt 0 137 1000) 0
+    ∷ number (totalAt 0 137 1001) 12
+    ∷ number (totalAt 1 142 1000) 0
+    ∷ number (totalAt 1 142 1001) 12
+    ∷ number (totalAt 2 146 1000) 0
+    ∷ number (totalAt 2 146 1001) 12
+    ∷ number (totalAt 3 149 1000) 0
+    ∷ number (totalAt 3 149 1001) 12
+    ∷ number (totalAt 4 150 1000) 0
+    ∷ number (totalAt 4 150 1001) 12
+    ∷ number (totalAt 0 152 1000) 0
+    ∷ number (totalAt 0 152 1001) 12
+    ∷ number (totalAt 1 156 1000) 0
+    ∷ number (totalAt 1 156 1001) 12
+    ∷ number (totalAt 2 161 1000) 0
+    ∷ number (totalAt 2 161 1001) 12
+    ∷ number (totalAt 3 166 1000) 0
+    ∷ number (totalAt 3 166 1001) 12
+    ∷ number (totalAt 4 171 1000) 0
+    ∷ number (totalAt 4 171 1001) 12
+    ∷ number (dayFault (changed (set limitWords 171 1000) 150 1000)) 0
+    ∷ number (dayFault (changed limitWords 136 200001000)) 0
+    ∷ number (dayFault (changed limitWords 136 200001001)) 12
+    ∷ number (dayFault (changed limitWords 175 200001000)) 0
+    ∷ number (dayFault (changed limitWords 175 200001001)) 12
+    ∷ number (dayFault (changed limitWords 137 4094967296)) 12
+    ∷ number (dayFault (changed limitWords 171 4094967296)) 12
+    ∷ number (dayFault (changed (set limitWords 171 1001) 176 200000001)) 12
+    ∷ number (cutFault (drop 64 (changed limitWords 171 1001))) 12
+    ∷ number (viewFault (changed limitWords 150 1001) 0 0) 12
+    ∷ []
+
 -- all of this file, opened
 unfoldable pub refusedOpened : ℕ
-unfolding limitWords limitDay changed twoWords cutterCases answerCases refusedCases limitCases accreditationCases pulledWords allPulled pulledCases
+unfolding limitWords limitDay changed twoWords cutterCases answerCases refusedCases limitCases accreditationCases pulledWords allPulled pulledCases totalAt excessCases
 refusedOpened = 0

@@ -1,18 +1,20 @@
 -- `step_allocation::allocate_all` meets its contract.
 use borrow.Author.Needs.{needs}
-use Rattle.step_allocation.specs.Rows.{allocatedIn}
-use Rattle.numbers.specs.Fives.{five-is}
+use Rattle.step_allocation.specs.Rows.{allocation, allocations}
 use Rattle.step_allocation.proofs.allocate_all.Statement.{statement}
 use Rattle.step_allocation.proofs.allocate_all.Tie as tie
 
 returns : tie.Need-returns
-unfolding allocatedIn
+unfolding allocation allocations
 returns c =
     let after-allocate = c .before .before .before .before in
-    let at-start = after-allocate .before in
-    let allocatedIn′ = allocatedIn (at-start .args .t1) (at-start .args .l) (at-start .args .u) in
-    five-is allocatedIn′ (after-allocate .allocate .ensures) (c .before .before .before .allocate2 .ensures)
-    (c .before .before .allocate3 .ensures) (c .before .allocate4 .ensures) (c .allocate5 .ensures)
+    rw (
+      after-allocate .allocate .ensures,
+      c .before .before .before .allocate2 .ensures,
+      c .before .before .allocate3 .ensures,
+      c .before .allocate4 .ensures,
+      c .allocate5 .ensures,
+    )
 
 pub allocate-all-spec : {M : Type 1} → statement M
 allocate-all-spec =

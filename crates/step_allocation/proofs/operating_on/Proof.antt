@@ -1,11 +1,11 @@
 -- `step_allocation::operating_on` meets its contract.
-use Rattle.rules.specs.Payments.{operatingOn}
-use Rattle.step_allocation.specs.Rows.{allocatedIn}
+use Rattle.rules.specs.Payments.{operatingOn, excessOf}
+use Rattle.step_allocation.specs.Rows.{allocations, operatingAllocations}
 use Rattle.step_allocation.proofs.operating_on.Statement.{statement}
 use Rattle.step_allocation.proofs.operating_on.Tie as tie
 
 returns : tie.Need-returns
-unfolding operatingOn allocatedIn
+unfolding operatingOn excessOf allocations operatingAllocations
 returns c = c .allocate-all .ensures
 
 pub operating-on-spec : {M : Type 1} → statement M

@@ -1,12 +1,12 @@
 -- Rows and records of a step's inputs, from what the code has read.
-use Prim.Native.Nat.{ℕ, _^_, _≤_, _<_}
+use Prim.Native.Nat.{ℕ, _+_, _^_, _≤_, _<_}
 use native.Mathlib.Omega.{arith}
 use mathlib.Core.Path.{_≡_, sym, _∙_, ap, subst}
 use mathlib.Core.List.{List, []}
 use lib.ListN.{getD}
 use Rattle.rules.specs.Fold.{five, at, sumTo}
 use Rattle.rules.specs.Layout as layout
-use Rattle.rules.specs.Layout.{operatingTable, actualEntry}
+use Rattle.rules.specs.Layout.{excessMost, operatingTable, actualEntry}
 use Rattle.rules.specs.Steps.{greatestBreak, upperEnd, lowerEnd}
 use Rattle.rules.specs.Quantities.{pricingTotal, tableTotal, tableActual}
 use Rattle.rules.specs.Refusals.{lineFaultWith}
@@ -31,7 +31,7 @@ market-is d p m c k a b e f = rw (a, b, e, f)
 
 -- totals of a line that is accepted with the table t fit a word
 module _ (t : List (List ℕ)) (w : List ℕ) (z : lineFaultWith t w ≡ 0) where
-  row-narrow : (f : ℕ → ℕ) (row : List ℕ) → ((s : ℕ) → s < 5 → f s ≤ greatestBreak w) → row ≡ five f → (s : ℕ) → s < 5 → at row s < 2 ^ 32
+  row-narrow : (f : ℕ → ℕ) (row : List ℕ) → ((s : ℕ) → s < 5 → f s ≤ greatestBreak w + excessMost) → row ≡ five f → (s : ℕ) → s < 5 → at row s < 2 ^ 32
   row-narrow f row h e s l =
       let m = most-limit w (accepted-with t w z) in
       let g = h s l in
@@ -58,19 +58,19 @@ module _ (t : List (List ℕ)) (w : List ℕ) (z : lineFaultWith t w ≡ 0) wher
   narrowed : (f : ℕ → ℕ) (q p : List ℕ) → q ≡ five (at p) → p ≡ five f → q ≡ five f
   narrowed f q p e h = e ∙ ap (λ (x : List ℕ). five (at x)) h
 
-  pub totals-are : (sd ac hg v : ℕ) (m p p′ o o′ : List ℕ)
+  pub totals-are : (sd ac hg v g : ℕ) (m p p′ o o′ : List ℕ)
       → sd ≡ layout.side w → ac ≡ layout.accreditation w → m ≡ five (accreditedIn ac) → hg ≡ layout.hedge w
-      → p ≡ five (pricingTotal w) → p′ ≡ five (at p) → o ≡ five (tableTotal t) → o′ ≡ five (at o) → v ≡ tableActual t w
-      → _≡_ {A = LineTotals} (record { side = sd; accredited = m; hedge = hg; pricing = p′; operating = o′; actual = v }) (totalsOf t w)
+      → p ≡ five (pricingTotal w) → p′ ≡ five (at p) → o ≡ five (tableTotal t) → o′ ≡ five (at o) → v ≡ tableActual t w → g ≡ greatestBreak w
+      → _≡_ {A = LineTotals} (record { side = sd; accredited = m; hedge = hg; pricing = p′; operating = o′; actual = v; most = g }) (totalsOf t w)
   unfolding totalsOf
-  totals-are sd ac hg v m p p′ o o′ a b q c d e f g h =
+  totals-are sd ac hg v g m p p′ o o′ a b q c d e f i h j =
       let pe : p′ ≡ five (pricingTotal w) = narrowed (pricingTotal w) p′ p e d in
-      let oe : o′ ≡ five (tableTotal t) = narrowed (tableTotal t) o′ o g f in
-      rw (a, q, b, c, pe, oe, h)
+      let oe : o′ ≡ five (tableTotal t) = narrowed (tableTotal t) o′ o i f in
+      rw (a, q, b, c, pe, oe, h, j)
 
 pub step-from-is : (m : Market) (t : LineTotals) (l u : ℕ) (p f q r : List ℕ)
     → q ≡ five (cappedIn (m .mark) (m .cap) p) → r ≡ paidRow (t .accredited) (t .hedge) u
-    → _≡_ {A = Step} (record { side = t .side; lower = l; upper = u; price = q; flag = f; market = m .price; paid = r; pricing = t .pricing; operating = t .operating; actual = t .actual }) (stepWith m t l u p f)
+    → _≡_ {A = Step} (record { side = t .side; lower = l; upper = u; price = q; flag = f; market = m .price; paid = r; pricing = t .pricing; operating = t .operating; actual = t .actual; most = t .most }) (stepWith m t l u p f)
 unfolding stepWith
 step-from-is m t l u p f q r a b = rw (a, b)
 

@@ -12,23 +12,23 @@ use Rattle.rules.specs.Report.{decimal, space, lineFeed, refusedLine}
 use Rattle.rules.specs.declared.View.{View}
 use Rattle.text_lines.specs.Lines.{lineIds, sideSteps}
 use Rattle.text_steps.specs.Text.{lineWord, stepText, lineHead, lineSteps, stepsPart, partMost, partOf}
-use Rattle.text_view.specs.ViewText.{viewText}
+use Rattle.text_view.specs.ViewText.{viewText, excessRow}
 
 -- a step from the view's answer
 pub step-is : (d : List ℕ) (k j : ℕ) {v : View} → v ≡ viewAnswer d k j → viewText j v ≡ stepText d k j
 unfolding stepText
 step-is d k j e = rw e
 
--- a line's heading from what was read of the line, and the line with its steps
+-- a line's heading from what was read of the line, and the line with its steps and its excess
 pub head-is : (k : ℕ) (w : List ℕ) {p q sd n : ℕ} → p ≡ word w 0 → q ≡ word w 4 → sd ≡ word w 8 → n ≡ stepCount w
     → lineWord ++ decimal k ++ space ++ lineIds p q ++ sideSteps sd n ++ lineFeed ≡ lineHead k w
 unfolding lineHead
 head-is k w e₀ e₁ e₂ e₃ = rw (e₀, e₁, e₂, e₃)
 
-pub line-is : (d : List ℕ) (k : ℕ) {w : List ℕ} {n : ℕ} → w ≡ lineAt d k → n ≡ stepCount (lineAt d k)
-    → lineHead k w ++ joined n (stepText d k) ≡ lineSteps d k
+pub line-is : (d : List ℕ) (k : ℕ) {w : List ℕ} {n : ℕ} {v : View} → w ≡ lineAt d k → n ≡ stepCount (lineAt d k) → v ≡ viewAnswer d k 0
+    → lineHead k w ++ joined n (stepText d k) ++ excessRow (v .excess) ≡ lineSteps d k
 unfolding lineSteps
-line-is d k e₀ e₁ = rw (e₀, e₁)
+line-is d k e₀ e₁ e₂ = rw (e₀, e₁, e₂)
 
 -- a part by its cases
 module _ (d : List ℕ) (k lent : ℕ) where

@@ -9,7 +9,7 @@ use Rattle.rules.specs.Layout.{lineAt, side, clawback}
 use Rattle.rules.specs.Steps.{ends, lowerEnd}
 use Rattle.rules.specs.Cutting.{cutOf}
 use Rattle.rules.specs.Matching.{tenMatches}
-use Rattle.rules.specs.Payments.{operatingOn, pricingOn, actualOn, aginoOn, msiqOn, onStep, initial, revised, modified}
+use Rattle.rules.specs.Payments.{initial, revised, modified}
 use Rattle.rules.specs.Days.{stepOf, settledDay}
 use Rattle.rules.specs.Viewing.{viewOf}
 use Rattle.rules.specs.declared.Step.{Step}
@@ -17,6 +17,8 @@ use Rattle.rules.specs.declared.View.{View}
 use Rattle.rules.specs.declared.Cut.{Cut}
 use Rattle.numbers.specs.Fives.{five-same}
 use Rattle.cutter.specs.Arrays.{padded-at}
+use Rattle.step_quantities.specs.declared.constrained.StepQuantities.{StepQuantities}
+use Rattle.step_quantities.specs.Quantities.{quantitiesOn}
 use Rattle.step_pool.specs.declared.pool_amounts.SidePool.{SidePool}
 use Rattle.step_pool.specs.Amounts.{finalOn, poolAt}
 use Rattle.step_pool.specs.Parts.{off-initial}
@@ -28,48 +30,30 @@ pub finals-off : (x : Step) (claw : ℕ) (p : SidePool) → claw ≡ 0 → five 
 unfolding finalOn
 finals-off x claw p e = five-same (finalOn x claw p) (initial x) (λ s l. off-initial x claw s (poolAt p s) e)
 
-pub figures-are : (x : Step) (claw : ℕ) (p : SidePool) (w a : ℕ) (o e g q c t : List ℕ) (i r m f : List ℤ)
-    → w ≡ x .upper - x .lower → a ≡ actualOn x → o ≡ five (operatingOn x) → e ≡ five (pricingOn x) → g ≡ five (aginoOn x) → q ≡ five (msiqOn x)
-    → c ≡ onStep x → t ≡ tenMatches c → i ≡ five (initial x) → r ≡ five (revised x) → m ≡ five (modified x) → f ≡ five (finalOn x claw p)
+pub figures-are : (x : Step) (claw : ℕ) (p : SidePool) (w : ℕ) (q : StepQuantities) (t : List ℕ) (i r m f : List ℤ)
+    → w ≡ x .upper - x .lower → q ≡ quantitiesOn x → t ≡ tenMatches (q .constrained)
+    → i ≡ five (initial x) → r ≡ five (revised x) → m ≡ five (modified x) → f ≡ five (finalOn x claw p)
     → _≡_ {A = View} (record {
-      number = 0;
-      end = x .upper;
-      width = w;
-      actual = a;
-      price = x .price;
-      flag = x .flag;
-      operating = o;
-      pricing = e;
-      agino = g;
-      msiq = q;
-      constrained = c;
-      matches = t;
       initial = i;
       revised = r;
       modified = m;
       finals = f;
-    }) (viewFrom x claw p)
-unfolding viewFrom
-figures-are x claw p w a o e g q c t i r m f h1 h2 h3 h4 h5 h6 h7 h8 h9 h10 h11 h12 =
-    let h : t ≡ tenMatches (onStep x) = h8 ∙ ap tenMatches h7 in
-    λ z. record {
       number = 0;
       end = x .upper;
-      width = h1 z;
-      actual = h2 z;
+      width = w;
+      actual = q .actual;
       price = x .price;
       flag = x .flag;
-      operating = h3 z;
-      pricing = h4 z;
-      agino = h5 z;
-      msiq = h6 z;
-      constrained = h7 z;
-      matches = h z;
-      initial = h9 z;
-      revised = h10 z;
-      modified = h11 z;
-      finals = h12 z;
-    }
+      operating = q .operating;
+      pricing = q .pricing;
+      agino = q .agino;
+      msiq = q .msiq;
+      constrained = q .constrained;
+      matches = t;
+      excess = q .excess;
+    }) (viewFrom x claw p)
+unfolding viewFrom quantitiesOn
+figures-are x claw p w q t i r m f h1 h2 h3 h4 h5 h6 h7 = rw (h1, h3, h2, h4, h5, h6, h7)
 
 -- the end before step j in the cutter's answer
 cut-lower : (w : List ℕ) (j : ℕ) → getD (0 ∷ cutOf w .ends) j 0 ≡ lowerEnd w j

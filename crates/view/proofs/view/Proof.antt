@@ -126,12 +126,13 @@ totals-of-requires c κs =
 
 lower-end-requires : tie.Need-lower-end-requires
 lower-end-requires c κs =
-    let in-else3 = c .before .before .before .before .before .before .before .before .before in
-    few in-else3
+    let in-else3 = c .before .before .before .before .before .before .before .before .before in few in-else3
 
 step-at-requires : tie.Need-step-at-requires
 step-at-requires c κs =
-    let after-market-of = c .before .before .before .before .before .before in
+    let after-totals-of = c .before .before .before .before in
+    let after-operating-table = after-totals-of .before in
+    let after-market-of = after-operating-table .before in
     let in-else3 = after-market-of .before .before .before .before in
     let after-steps = in-else3 .before .before in
     let in-else2 = after-steps .before .before in
@@ -141,12 +142,10 @@ step-at-requires c κs =
     let line = at-start .args .line in
     let step = at-start .args .step in
     let line-of-ensures = after-steps .before .line-of .ensures in
-    let after-operating-table = c .before .before .before .before .before in
-    let after-totals-of = c .before .before .before .before in
     let lower-is′ = lower-is day _ line step _ _ line-of-ensures (after-steps .steps .ensures) (c .lower-end .ensures) in
     step-there day (accepted in-else1) line (below in-else2) _ line-of-ensures _ (after-steps .steps .ensures) step
-    (in-else3 .if3 .left) _ _ _ _ (after-market-of .market-of .ensures)
-    (after-operating-table .operating-table .ensures) (after-totals-of .totals-of .ensures) lower-is′
+    (in-else3 .if3 .left) _ _ _ _ (after-market-of .market-of .ensures) (after-operating-table .operating-table .ensures)
+    (after-totals-of .totals-of .ensures) lower-is′
 
 pool-for-requires : tie.Need-pool-for-requires
 pool-for-requires c κs =

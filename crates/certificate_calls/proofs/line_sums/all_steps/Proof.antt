@@ -17,14 +17,14 @@ abbrev μ-loop : tie.MeasureT-loop
 loop-holds : tie.Need-loop-holds Inv-loop μ-loop
 loop-holds c =
     let at-start = c .before .before in
-    (omega arith, sums-none (now (at-start .args .day)) (at-start .args .line) _ (c .refused .ensures))
+    (omega arith, sums-none (now (at-start .args .day)) (at-start .args .line) _ _ (at-start .pre .1) (c .with-excess .ensures))
 
 with-step-requires : tie.Need-with-step-requires Inv-loop μ-loop
 with-step-requires c κs =
     let at-loop = c .before .before in
     let at-start = at-loop .before .before .before in
-    addable (now (at-start .args .day)) (at-start .args .line) (at-start .args .count) (at-start .pre) (at-loop .loop .j) _ _
-    (c .before .loop-test .taken) (at-loop .loop .inv .1) (c .view .ensures)
+    addable (now (at-start .args .day)) (at-start .args .line) (at-start .args .count) (at-start .pre .0) (at-loop .loop .j)
+    _ _ (c .before .loop-test .taken) (at-loop .loop .inv .1) (c .view .ensures)
 
 add-j : tie.Need-add-j Inv-loop μ-loop
 add-j c = record { fits = omega (arith, c) }
@@ -41,8 +41,8 @@ returns : tie.Need-returns Inv-loop μ-loop
 returns c =
     let at-loop = c .before in
     let at-start = at-loop .before .before .before in
-    sums-all (now (at-start .args .day)) (at-start .args .line) (at-start .args .count) (at-start .pre) (at-loop .loop .j) _
-    (at-loop .loop .inv .0) (omega (arith, c)) (at-loop .loop .inv .1)
+    sums-all (now (at-start .args .day)) (at-start .args .line) (at-start .args .count) (at-start .pre .0)
+    (at-loop .loop .j) _ (at-loop .loop .inv .0) (omega (arith, c)) (at-loop .loop .inv .1)
 
 pub all-steps-spec : {M : Type 1} → statement M
 all-steps-spec =

@@ -17,17 +17,19 @@ all-steps-requires : tie.Need-all-steps-requires
 all-steps-requires c κs =
     let after-view = c .before .before .before .before .before in
     let at-start = after-view .before .before in
-    counted (now (at-start .args .day)) (at-start .args .line) _ _ _ (after-view .view .ensures)
-    (c .before .before .before .if1 .left) (c .before .before .line-part .ensures) (c .before .cut .ensures)
+    let counted′ = counted (now (at-start .args .day)) (at-start .args .line) _ _ _ (after-view .view .ensures)
+    (c .before .before .before .if1 .left) (c .before .before .line-part .ensures) (c .before .cut .ensures) in
+    (counted′, after-view .view .ensures)
 
 returns-2 : tie.Need-returns-2
 returns-2 c =
     let in-else1 = c .before .before .before .before in
     let after-view = in-else1 .before .before in
     let at-start = after-view .before .before in
+    let line = at-start .args .line in
     let day = now (at-start .args .day) in
-    sums-taken day (at-start .args .line) _ _ (first-number day (at-start .args .line) _ (after-view .view .ensures))
-    (in-else1 .if1 .left) (c .all-steps .ensures)
+    sums-taken day line _ _ (first-number day line _ (after-view .view .ensures)) (in-else1 .if1 .left)
+    (c .all-steps .ensures)
 
 pub line-sums-spec : {M : Type 1} → statement M
 line-sums-spec =

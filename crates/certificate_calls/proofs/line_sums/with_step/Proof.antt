@@ -9,4 +9,4 @@ unfolding sumsWith
 returns c = rw (c .before .added .ensures, c .added2 .ensures)
 
 pub with-step-spec : {M : Type 1} → statement M
-with-step-spec = tie.close (tie.spec (λ c. search needs) (λ c κs. search needs) (λ c κs. search needs) returns)
+with-step-spec = tie.close (tie.spec (λ c. search needs) (λ c. search needs) (λ c κs. search needs) (λ c κs. search needs) returns)

@@ -8,10 +8,10 @@ use Rattle.step_changes.proofs.rates.rates.Tie as tie
 returns : tie.Need-returns
 unfolding rate
 returns c =
-    let after-excess = c .before .before .before .before in
-    let at-start = after-excess .before .before .before in
-    five-is (rate (at-start .args .x)) (after-excess .excess .ensures) (c .before .before .before .excess2 .ensures)
-    (c .before .before .excess3 .ensures) (c .before .excess4 .ensures) (c .excess5 .ensures)
+    let after-beyond-by = c .before .before .before .before in
+    let at-start = after-beyond-by .before .before .before in
+    five-is (rate (at-start .args .x)) (after-beyond-by .beyond-by .ensures) (c .before .before .before .beyond-by2 .ensures)
+    (c .before .before .beyond-by3 .ensures) (c .before .beyond-by4 .ensures) (c .beyond-by5 .ensures)
 
 pub rates-spec : {M : Type 1} → statement M
 rates-spec =

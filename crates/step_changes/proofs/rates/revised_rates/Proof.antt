@@ -8,17 +8,17 @@ use Rattle.step_changes.proofs.rates.revised_rates.Tie as tie
 returns : tie.Need-returns
 unfolding revisedAt
 returns c =
-    let after-excess3 = c .before .before .before .before in
-    let after-excess = after-excess3 .before .before .before .before in
-    let at-start = after-excess .before .before in
+    let after-beyond-by3 = c .before .before .before .before in
+    let after-beyond-by = after-beyond-by3 .before .before .before .before in
+    let at-start = after-beyond-by .before .before in
     let g = at-start .args in
     five-is
     (revisedAt (g .side) (g .t2) (g .own) (g .market))
-    (rw (← after-excess .before .milder .ensures) (after-excess .excess .ensures))
-    (rw (← after-excess3 .before .before .before .milder2 .ensures) (after-excess3 .before .before .excess2 .ensures))
-    (rw (← after-excess3 .before .milder3 .ensures) (after-excess3 .excess3 .ensures))
-    (rw (← c .before .before .before .milder4 .ensures) (c .before .before .excess4 .ensures))
-    (rw (← c .before .milder5 .ensures) (c .excess5 .ensures))
+    (rw (← after-beyond-by .before .milder .ensures) (after-beyond-by .beyond-by .ensures))
+    (rw (← after-beyond-by3 .before .before .before .milder2 .ensures) (after-beyond-by3 .before .before .beyond-by2 .ensures))
+    (rw (← after-beyond-by3 .before .milder3 .ensures) (after-beyond-by3 .beyond-by3 .ensures))
+    (rw (← c .before .before .before .milder4 .ensures) (c .before .before .beyond-by4 .ensures))
+    (rw (← c .before .milder5 .ensures) (c .beyond-by5 .ensures))
 
 pub revised-rates-spec : {M : Type 1} → statement M
 revised-rates-spec =

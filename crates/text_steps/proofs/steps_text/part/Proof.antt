@@ -61,7 +61,7 @@ returns-5 c =
     let part-line′ = part-line (now (at-start .args .day)) (at-start .args .k) _ (in-else1 .if1 .left)
     (in-else4 .before .before .before .day-number .ensures) (in-else4 .before .before .if2 .left)
     (omega (arith, in-else4 .before .line-count .ensures, in-else4 .if4 .left)) in
-    written-wider 88965 _ (written-as part-line′ (c .before .before .put-line .ensures)) (in-else1 .if1 .left)
+    written-wider 89228 _ (written-as part-line′ (c .before .before .put-line .ensures)) (in-else1 .if1 .left)
 
 pub part-spec : {M : Type 1} → statement M
 part-spec =

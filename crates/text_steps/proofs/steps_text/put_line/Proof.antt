@@ -1,4 +1,4 @@
--- `text_steps::steps_text::put_line` meets its contract: the heading, and then the steps.
+-- `text_steps::steps_text::put_line` meets its contract: the heading, then the steps, then the excess.
 use mathlib.Core.Path.{sym, _∙_, ap}
 use denote.Ref.{now}
 use native.Mathlib.Omega.{arith}
@@ -43,24 +43,46 @@ put-steps-requires c κs =
     (after-put-line-head .before .before .steps .ensures) in
     omega (arith, few, at-start .pre .2, after-put-line-head .put-line-head .ensures .most, after-put-line-head .put-line-head .ensures .end)
 
+put-excess-requires : tie.Need-put-excess-requires
+put-excess-requires c κs =
+    let after-put-steps = c .before .before .before .before .before in
+    let after-put-line-head = after-put-steps .before .before .before .before in
+    let at-start = after-put-line-head .before .before .before .before .before .before in
+    let d = now (at-start .args .day) in
+    let few = count-few d (at-start .pre .0) (at-start .args .k) (at-start .pre .1) _
+    (after-put-line-head .before .before .before .line-of .ensures) _
+    (after-put-line-head .before .before .steps .ensures) in
+    omega (
+      arith,
+      few,
+      at-start .pre .2,
+      after-put-line-head .put-line-head .ensures .most,
+      after-put-line-head .put-line-head .ensures .end,
+      after-put-steps .put-steps .ensures .most,
+      after-put-steps .put-steps .ensures .end,
+    )
+
 returns : tie.Need-returns
 returns c =
-    let after-put-line-head = c .before .before .before .before .before .before in
+    let after-view = c .before .before .before .before .before in
+    let after-put-line-head = after-view .before .before .before .before .before .before .before in
     let after-steps = after-put-line-head .before .before in
     let at-start = after-steps .before .before .before .before in
     let line-of-ensures = after-steps .before .line-of .ensures in
-    let then′ = then (after-put-line-head .put-line-head .ensures) (c .before .before .put-steps .ensures) in
+    let then′ = then
+    (then (after-put-line-head .put-line-head .ensures) (after-view .before .before .before .put-steps .ensures))
+    (c .before .before .put-excess .ensures) in
     let d = now (at-start .args .day) in
-    let a = at-start .pre .0 in
-    let k = at-start .args .k in
-    let l = at-start .pre .1 in
+    let a = (at-start .pre .0) in
+    let k = (at-start .args .k) in
+    let l = (at-start .pre .1) in
     let few = count-few d a k l _ line-of-ensures _ (after-steps .steps .ensures) in
-    written-wider _ 88965
-    (written-as (line-is d k line-of-ensures (count-is d a k l _ line-of-ensures _ (after-steps .steps .ensures))) then′)
-    (omega (arith, few))
+    let text = line-is d k line-of-ensures (count-is d a k l _ line-of-ensures _ (after-steps .steps .ensures))
+    (after-view .view .ensures) in
+    written-wider _ 89228 (written-as text then′) (omega (arith, few))
 
 pub put-line-spec : {M : Type 1} → statement M
 put-line-spec =
     tie.close
     (tie.spec line-of-requires steps-requires put-line-head-requires (λ c. search needs) put-steps-requires
-    (λ c. search needs) returns)
+    (λ c κs. search needs) put-excess-requires (λ c. search needs) returns)

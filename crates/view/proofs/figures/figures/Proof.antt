@@ -6,23 +6,16 @@ use Rattle.view.proofs.figures.figures.Tie as tie
 
 returns : tie.Need-returns
 returns c =
-    let after-ten-matches = c .before .before .before .before in
-    let after-operating-on = after-ten-matches .before .before .before .before in
-    figures-are _ _ _ _ _ _ _ _ _ _ _ _ _ _ _
-    (after-operating-on .before .before .width-of .ensures)
-    (after-operating-on .before .actual-on .ensures)
-    (after-operating-on .operating-on .ensures)
-    (after-ten-matches .before .before .before .pricing-on .ensures)
-    (after-ten-matches .before .before .agino-on .ensures)
-    (after-ten-matches .before .msiq-on .ensures)
-    (after-operating-on .before .before .before .constrained-on .ensures)
-    (after-ten-matches .ten-matches .ensures)
-    (c .before .before .before .initial .ensures) (c .before .before .revised .ensures) (c .before .modified .ensures)
-    (c .final-payments .ensures)
+    let after-revised = c .before .before .before .before in
+    let after-quantities-on = after-revised .before .before .before .before .before .before .before .before in
+    figures-are _ _ _ _ _ _ _ _ _ _ (c .before .width-of .ensures)
+    (after-quantities-on .quantities-on .ensures) (c .ten-matches .ensures)
+    (after-revised .before .initial .ensures) (after-revised .revised .ensures)
+    (c .before .before .before .modified .ensures)
+    (c .before .before .final-payments .ensures)
 
 pub figures-spec : {M : Type 1} → statement M
 figures-spec =
     tie.close
     (tie.spec (λ c κs. search needs) (λ c κs. search needs) (λ c κs. search needs) (λ c κs. search needs)
-    (λ c κs. search needs) (λ c κs. search needs) (λ c κs. search needs) (λ c κs. search needs) (λ c κs. search needs)
     (λ c κs. search needs) (λ c κs. search needs) (λ c κs. search needs) returns)

@@ -1,0 +1,73 @@
+-- The days that docs/RULES.md works out by hand for document 02's requests: one lemma, computed on the definitions. It comes before the days of
+-- the third implementation: it costs less, and a wrong definition of a request is mostly refused here.
+use mathlib.Core.Path.{_≡_, refl}
+use mathlib.Core.List.{List, [], _∷_, _++_}
+use mathlib.Core.Bool.{true}
+use lib.ListN.{replicate}
+use Rattle.rules.specs.Refusals.{dayFault}
+use Rattle.rules.specs.Book.{bookAfter}
+use Rattle.rules.specs.Report.{reportText}
+use Rattle.rules.specs.Worked.Cases.{Case, every}
+use Rattle.rules.specs.Worked.Opened.{opened}
+use Rattle.rules.specs.Worked.Laws.{all, part-holds, case-holds, number-holds}
+use Rattle.rules.specs.Worked.Figures.{figures}
+use Rattle.rules.specs.Worked.Reschedule.{rescheduleDay, rescheduleBook, rescheduleText, rescheduleCasesOn, rescheduleCases, rescheduleOpened}
+use Rattle.rules.specs.Worked.Pulled0.{pulled0Day, pulled0Book, pulled0Text, pulled0CasesOn, pulled0Cases, pulled0Opened}
+use Rattle.rules.specs.Worked.Excess0.{excess0Day, excess0Book, excess0Text, excess0CasesOn, excess0Cases, excess0Opened}
+
+abbrev handParts : List (List Case)
+handParts = excess0Cases ∷ rescheduleCases ∷ pulled0Cases ∷ []
+
+-- it names K1 to K10's lemma, so that where that is refused this is not computed
+pub hand-days : every (all handParts) ≡ true
+unfolding opened excess0Opened rescheduleOpened pulled0Opened
+hand-days = let k = figures in refl
+
+-- every case of each day: with `case-holds` the equation of any of them
+pub excess-0 : every excess0Cases ≡ true
+excess-0 = part-holds handParts hand-days 0
+
+pub reschedule : every rescheduleCases ≡ true
+reschedule = part-holds handParts hand-days 1
+
+pub pulled-0 : every pulled0Cases ≡ true
+pulled-0 = part-holds handParts hand-days 2
+
+-- F-2: the day is accepted, its book with a lent byte beyond unchanged, and its report
+pub excess-0-accepted : dayFault excess0Day ≡ 0
+unfolding excess0CasesOn excess0Cases
+excess-0-accepted = number-holds (dayFault excess0Day) 0 (case-holds excess0Cases excess-0 0)
+
+pub excess-0-book : bookAfter excess0Day (replicate 265 170) ≡ excess0Book ++ (170 ∷ [])
+unfolding excess0CasesOn excess0Cases
+excess-0-book = case-holds excess0Cases excess-0 1
+
+pub excess-0-report : reportText excess0Day ≡ excess0Text
+unfolding excess0CasesOn excess0Cases
+excess-0-report = case-holds excess0Cases excess-0 2
+
+-- F-7
+pub reschedule-accepted : dayFault rescheduleDay ≡ 0
+unfolding rescheduleCasesOn rescheduleCases
+reschedule-accepted = number-holds (dayFault rescheduleDay) 0 (case-holds rescheduleCases reschedule 0)
+
+pub reschedule-book : bookAfter rescheduleDay (replicate 321 170) ≡ rescheduleBook ++ (170 ∷ [])
+unfolding rescheduleCasesOn rescheduleCases
+reschedule-book = case-holds rescheduleCases reschedule 1
+
+pub reschedule-report : reportText rescheduleDay ≡ rescheduleText
+unfolding rescheduleCasesOn rescheduleCases
+reschedule-report = case-holds rescheduleCases reschedule 2
+
+-- F-6
+pub pulled-0-accepted : dayFault pulled0Day ≡ 0
+unfolding pulled0CasesOn pulled0Cases
+pulled-0-accepted = number-holds (dayFault pulled0Day) 0 (case-holds pulled0Cases pulled-0 0)
+
+pub pulled-0-book : bookAfter pulled0Day (replicate 265 170) ≡ pulled0Book ++ (170 ∷ [])
+unfolding pulled0CasesOn pulled0Cases
+pulled-0-book = case-holds pulled0Cases pulled-0 1
+
+pub pulled-0-report : reportText pulled0Day ≡ pulled0Text
+unfolding pulled0CasesOn pulled0Cases
+pulled-0-report = case-holds pulled0Cases pulled-0 2
