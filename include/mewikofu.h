@@ -1,4 +1,4 @@
-/* Mewikofu for C and other languages.
+/* Mewikofu for C (C99 or later), C++ (C++98 or later) and other languages.
 
    Link libmewikofu (settling, the step view, the line part) and for the cutter libmewikofu_cut, or the shared object, which has both: tools/install
    installs them. In the repository they are target/staticlib/libengine_c.a, which `rt staticlib engine_c` writes, and libcutter_c.a, which

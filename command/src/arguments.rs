@@ -53,7 +53,7 @@ participant, point, side and step count; after `step J` the upper end, the width
 actual A; then a row for each schedule: price, flag, O, E, AGINO, MSIQ, C, and the initial, \
 revised, modified and final payment; then the ten matches m(1,2) m(1,3) m(2,3) m(1,4) .. m(4,5). \
 After a line's last step come `excess pricing` and five quantities, `operating` and five, `actual` \
-and one: what no step takes.";
+and one: what no step takes of its pricing totals, its operating totals and its effective actual.";
 
 const CUT: &str = "\
 Cuts a line's bids at every break and at the hedge, as the proved program `cut` does: each step's \
@@ -61,8 +61,9 @@ upper end and its five uncapped prices, then for each schedule the word of missi
 how many are set.";
 
 const CHECK: &str = "\
-Says of each day `accepted`, or the refusal: its number, which is the proved code's, and in words \
-the line, bid, slot, value and limit, which are the command's own finding.";
+Says of each day `accepted`, with each total above the greatest break of its line's bids, or the \
+refusal: its number, which is the proved code's, and in words the line, bid, slot, value and limit, \
+which are the command's own finding.";
 
 const EXPLAIN: &str = "\
 Says in sentences why each payment of a day is what it is: the step's ends and prices, its \

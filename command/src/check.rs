@@ -1,6 +1,8 @@
-//! `check`: whether settling accepts a day, and every fault of one that it doesn't.
+//! `check`: whether settling accepts a day, with the excess of its lines, and every fault of one that it does not accept.
 
 use crate::arguments::Options;
+use crate::excess;
+use crate::figures::refused;
 use crate::input::{read_day, Input};
 use crate::outcome::{each, Problem, Result, Status};
 use crate::output::{put_json, Format, Table};
@@ -22,26 +24,26 @@ pub fn run(options: &Options, out: &mut dyn Write) -> Result<Status> {
         Format::Csv => {
             let mut table = Table::new(out, &COLUMNS.map(String::from))?;
             let status = each(&options.files, |file| {
-                let (name, answer) = check_file(file)?;
+                let (input, answer) = check_file(file)?;
                 note(&answer);
-                put_table(&mut table, &name, &answer, options.all)
+                put_table(&mut table, &input.name, &answer, options.all)
             })?;
             table.finish()?;
             status
         }
         Format::Json => each(&options.files, |file| {
-            let (name, answer) = check_file(file)?;
+            let (input, answer) = check_file(file)?;
             note(&answer);
             let value = match answer {
-                None => json!({ "file": name, "refused": 0 }),
-                Some(explained) => refused_json(&name, &limited(explained, options.all)),
+                None => json!({ "file": input.name, "refused": 0 }),
+                Some(explained) => refused_json(&input.name, &limited(explained, options.all)),
             };
             put_json(out, &value, options.files.len() == 1)
         })?,
         Format::Text => each(&options.files, |file| {
-            let (name, answer) = check_file(file)?;
+            let (input, answer) = check_file(file)?;
             note(&answer);
-            Ok(writeln!(out, "{}", text(&name, &answer, options.all))?)
+            Ok(writeln!(out, "{}", text(&input, &answer, options.all)?)?)
         })?,
     };
     Ok(status.max(worst))
@@ -61,19 +63,26 @@ pub fn check(input: &Input) -> Result<Option<Explained>> {
     }
 }
 
-fn check_file(file: &OsStr) -> Result<(String, Option<Explained>)> {
+fn check_file(file: &OsStr) -> Result<(Input, Option<Explained>)> {
     let input = read_day(file)?;
     let answer = check(&input)?;
-    Ok((input.name, answer))
+    Ok((input, answer))
 }
 
-/// `FILE: accepted`, or the refusal: the first fault in one row, or all in a row each.
-pub fn text(name: &str, answer: &Option<Explained>, all: bool) -> String {
-    match answer {
-        None => format!("{name}: accepted"),
-        Some(explained) if all => format!("{name}: {}", explained.rows().join("\n")),
-        Some(explained) => format!("{name}: {}", explained.first()),
-    }
+/// `FILE: accepted` with each line's excess, or the refusal: the first fault in one row, or all in a row each.
+pub fn text(input: &Input, answer: &Option<Explained>, all: bool) -> Result<String> {
+    let said = match answer {
+        None => {
+            let lines = excess::of_day(&input.bytes).map_err(|refusal| refused(input, refusal))?;
+            let lines = lines
+                .iter()
+                .map(|(k, words)| format!("; line {k}: {words}"));
+            format!("accepted{}", lines.collect::<String>())
+        }
+        Some(explained) if all => explained.rows().join("\n"),
+        Some(explained) => explained.first(),
+    };
+    Ok(format!("{}: {said}", input.name))
 }
 
 fn limited(mut explained: Explained, all: bool) -> Explained {

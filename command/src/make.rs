@@ -28,7 +28,7 @@ pub fn run(options: &Options, out: &mut dyn Write) -> crate::outcome::Result<Sta
         put_hints(explained, options.format);
     }
     if options.check {
-        writeln!(out, "{}", check::text(&day.name, &verdict, options.all))?;
+        writeln!(out, "{}", check::text(&day, &verdict, options.all)?)?;
     } else {
         match &options.output {
             Some(path) if day.path.as_deref().map(canonical) == Some(canonical(path)) => {

@@ -190,11 +190,13 @@ fn draw_day(random: &mut Random) -> Vec<u8> {
         4..8 => valid_day(seed),
         8..12 => set_day(seed),
         12..16 => pulled_day(seed),
-        16..20 => excess_day(seed),
+        16..18 => excess_day(seed),
+        18..20 => over_delivery_day(seed),
         20..27 => small_day(seed),
         27..34 => small_set_day(seed),
         34..41 => small_pulled_day(seed),
-        _ => small_excess_day(seed),
+        41..45 => small_excess_day(seed),
+        _ => small_over_delivery_day(seed),
     };
     let wanted = 1 + random.below(4);
     if mutate::lines(&day) > wanted {

@@ -3,16 +3,22 @@
 use crate::layout::*;
 
 pub fn k10() -> Vec<u8> {
+    k10_of(Side::Injection)
+}
+
+/// The day of K10 or, for a withdrawal, the same with prices as far from the market price on its other side, so that
+/// all figures but side and prices are K10's.
+pub fn k10_of(side: Side) -> Vec<u8> {
     let mut day = vec![0; day_length(1)];
     put_words(&mut day, &header(1));
     for s in 0..SCHEDULES {
         put_word(&mut day, MARKET_PRICE + s, 30_000);
     }
-    fill_line(&mut day[LINES_OFFSET..]);
+    fill_line(&mut day[LINES_OFFSET..], side);
     day
 }
 
-fn fill_line(line: &mut [u8]) {
+fn fill_line(line: &mut [u8], side: Side) {
     const OPERATING: [[u32; 2]; SCHEDULES] = [
         [1000, 0],
         [1000, 1000],
@@ -20,15 +26,20 @@ fn fill_line(line: &mut [u8]) {
         [1000, 500],
         [1000, 500],
     ];
+    let prices = match side {
+        Side::Injection => [20_000, 50_000],
+        Side::Withdrawal => [40_000, 10_000],
+    };
     put_word(line, PARTICIPANT, 7);
     put_word(line, POINT, 3);
+    put_word(line, SIDE, side as u32);
     put_word(line, ACCREDITATION, 1);
     put_word(line, pricing_place(0, 0), 1000);
     put_word(line, actual_place(0), 1000);
     put_word(line, actual_place(1), 500);
     for (s, operating) in OPERATING.iter().enumerate() {
         put_word(line, count_place(s), 2);
-        for (slot, (end, price)) in [(1000, 20_000), (3000, 50_000)].into_iter().enumerate() {
+        for (slot, (end, price)) in [1000, 3000].into_iter().zip(prices).enumerate() {
             put_word(line, break_place(s, slot), end);
             put_word(line, price_place(s, slot), price);
         }

@@ -1,5 +1,5 @@
-//! A day whose steps show K3 to K7 (01 "Figures to check against"). Its market table is K10's. A line's participant is the
-//! case's number.
+//! A day whose steps show K3 to K7 (01 "Figures to check against"). Its market table is K10's. A line's participant is
+//! the case's number.
 
 use crate::k10::k10;
 use crate::layout::*;
@@ -22,7 +22,8 @@ pub fn k3_to_k7() -> Vec<u8> {
     day
 }
 
-/// K10's line with one step up to 50 at 40000 in each bid, nothing priced, and these operating totals and actual, all in interval 1.
+/// K10's line with one step up to 50 at 40000 in each bid, nothing priced, and these operating totals and actual, all
+/// in interval 1.
 fn one_step(own: &[u8], operating: BySchedule<u32>, actual: u32) -> Vec<u8> {
     let mut line = own.to_vec();
     for (s, total) in operating.into_iter().enumerate() {

@@ -3,6 +3,7 @@
 use reference::generate::*;
 use reference::k10::k10;
 use reference::k3_to_k7::k3_to_k7;
+use reference::layout::Side;
 use reference::pack;
 use reference::refusal::day_number;
 use reference::report::{cut_report, settle_report, steps_report, MOST_INPUT};
@@ -14,11 +15,12 @@ const USAGE: &str = "usage: reference settle|steps < DAY
        reference day SEED KIND
        reference days SEED COUNT KIND
        reference lines SEED COUNT [sets|pulled|excess]
-       reference edges|accreditations|pulled|excess|excess-lines
+       reference edges|accreditations|pulled
+       reference excess|excess-lines [withdrawals]
        reference expect settle|steps|cut|number < PACK
        reference k10|k3-to-k7
 KIND is valid, small, damaged, mixed, sets, small-sets, set-faults, pulled, small-pulled, pulled-faults, excess,
-small-excess or excess-faults.";
+small-excess, excess-faults, over-delivery or small-over-delivery.";
 
 fn main() -> ExitCode {
     let arguments: Vec<String> = std::env::args().skip(1).collect();
@@ -45,8 +47,10 @@ fn run(arguments: &[&str], out: &mut impl Write) -> io::Result<bool> {
         ["edges"] => write_pack(edge_days(), out)?,
         ["accreditations"] => write_pack(accreditation_days(), out)?,
         ["pulled"] => write_pack(pulled_k10_days(), out)?,
-        ["excess"] => write_pack(excess_k10_days(), out)?,
-        ["excess-lines"] => write_pack(excess_k10_lines(), out)?,
+        ["excess"] => write_pack(excess_k10_days(Side::Injection), out)?,
+        ["excess", "withdrawals"] => write_pack(excess_k10_days(Side::Withdrawal), out)?,
+        ["excess-lines"] => write_pack(excess_k10_lines(Side::Injection), out)?,
+        ["excess-lines", "withdrawals"] => write_pack(excess_k10_lines(Side::Withdrawal), out)?,
         ["expect", kind] => return expect(kind, out),
         [kind] => return report(kind, out),
         ["day", seed, kind] => {
@@ -92,6 +96,8 @@ fn generator(kind: &str) -> Option<Draw> {
         "excess" => Some(|_, seed| excess_day(seed)),
         "small-excess" => Some(|_, seed| small_excess_day(seed)),
         "excess-faults" => Some(|_, seed| excess_fault_day(seed)),
+        "over-delivery" => Some(|_, seed| over_delivery_day(seed)),
+        "small-over-delivery" => Some(|_, seed| small_over_delivery_day(seed)),
         _ => None,
     }
 }

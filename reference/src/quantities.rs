@@ -46,7 +46,7 @@ impl LineTotals {
 }
 
 /// What a step takes of a total, and what no step of the line takes.
-#[derive(Clone, Copy, Debug, Default, PartialEq, Eq)]
+#[derive(Clone, Copy)]
 pub struct Allocation {
     pub on_step: u32,
     pub excess: u32,
@@ -62,7 +62,6 @@ pub fn allocate(total: u32, most: u32, lower: u32, upper: u32) -> Allocation {
 }
 
 /// The quantities of one step. On withdrawals AGINO is FD's AGWNO and MSIQ is MSWQ.
-#[derive(Clone, Default)]
 pub struct Quantities {
     pub operating: BySchedule<Allocation>,
     pub pricing: BySchedule<Allocation>,
@@ -80,16 +79,17 @@ impl Quantities {
         let operating = totals.operating.map(allocated);
         let pricing = totals.pricing.map(allocated);
         let actual = allocated(totals.actual);
-        let on_step = |totals: &BySchedule<Allocation>| totals.map(|total| total.on_step);
-        let agino = agino(&on_step(&operating), actual.on_step);
-        let msiq = msiq(&on_step(&pricing), rates);
+        let on_step = |allocations: BySchedule<Allocation>| allocations.map(|a| a.on_step);
+        let operating_on_step = on_step(operating);
+        let agino = agino(&operating_on_step, actual.on_step);
+        let msiq = msiq(&on_step(pricing), rates);
         Quantities {
             operating,
             pricing,
             actual,
             agino,
             msiq,
-            constrained_on: constrained_on(&on_step(&operating), &agino, &msiq),
+            constrained_on: constrained_on(&operating_on_step, &agino, &msiq),
         }
     }
 }

@@ -29,7 +29,8 @@ const OPERATING: [[u32; 5]; 5] = [
 /// FD Table 7.
 const ACTUALS: [u32; 5] = [8, 9, 10, 11, 12];
 
-/// The line's words in the order of 01 "Units and the day file": participant 7, point 3, accredited injection, hedge 37.
+/// The line's words in the order of 01 "Units and the day file": participant 7, point 3, accredited injection, hedge
+/// 37.
 pub fn line() -> Vec<u8> {
     let mut words = vec![7, 3, 0, 1, 37];
     for (breaks, prices) in BIDS {

@@ -16,8 +16,8 @@ pub struct Excess {
     pub actual: u32,
 }
 
-/// The figures of one step. `price` is capped. The excess is the line's, so the same on all of its steps. A refused view
-/// has its number and zeros.
+/// The figures of one step. `price` is capped. The excess is the line's, so the same on all of its steps. A refused
+/// view has its number and zeros.
 #[derive(Clone, Debug, Default, PartialEq, Eq)]
 pub struct View {
     pub number: u32,

@@ -15,7 +15,7 @@ import struct
 import warnings
 from dataclasses import dataclass
 from pathlib import Path
-from typing import TYPE_CHECKING, Any, Dict, Iterable, List, SupportsIndex, Tuple, Type
+from typing import TYPE_CHECKING, Any, Dict, Iterable, List, Optional, SupportsIndex, Tuple, Type
 
 if TYPE_CHECKING:
     from _typeshed import ReadableBuffer, WriteableBuffer
@@ -121,7 +121,8 @@ class Book:
 @dataclass(frozen=True)
 class Excess:
     """What no step takes of a line's operating total, pricing total and effective actual, since it is above the greatest break of the line's bids
-    (document 02, F-2). In MJ, at most MOST_EXCESS. It is never constrained on and never paid. Tuples are by schedule, counted from 0."""
+    (document 02, F-2). In MJ, at most MOST_EXCESS. It is never constrained on and never paid. Tuples are by schedule, counted from 0. The fields' order is
+    operating, pricing, actual; the row of the program `steps` has pricing first."""
 
     operating: Tuple[int, ...]
     pricing: Tuple[int, ...]
@@ -341,8 +342,14 @@ class _Cut(ctypes.Structure):
     ]
 
 
-def _open() -> ctypes.CDLL:
-    named = os.environ.get("MEWIKOFU_LIBRARY")
+# What makes the package's own shared object.
+_BUILD = (
+    "In the repository, after `rt staticlib engine_c && rt staticlib cutter_c`, run `bindings/python/build`, or "
+    "`pip install ./bindings/python`; or name another shared object in MEWIKOFU_LIBRARY."
+)
+
+
+def _open(named: Optional[str]) -> ctypes.CDLL:
     file = Path(named) if named else Path(__file__).parent / "libmewikofu.so"
     try:
         return ctypes.CDLL(str(file))
@@ -351,14 +358,13 @@ def _open() -> ctypes.CDLL:
             raise ImportError(f"MEWIKOFU_LIBRARY names a shared object that can't be loaded: {error}") from error
         if file.exists():
             raise ImportError(f"the shared object can't be loaded: {error}") from error
-        raise ImportError(
-            f"{file} is missing. In the repository, after `rt staticlib engine_c && rt staticlib cutter_c`, run "
-            "`bindings/python/build`, or `pip install ./bindings/python`; or name another shared object in MEWIKOFU_LIBRARY."
-        ) from None
+        raise ImportError(f"{file} is missing. {_BUILD}") from None
 
 
 def _load() -> ctypes.CDLL:
-    library = _open()
+    named = os.environ.get("MEWIKOFU_LIBRARY")
+    library = _open(named)
+    remedy = f"Unset MEWIKOFU_LIBRARY, or name a libmewikofu of version {__version__} in it." if named else _BUILD
     data, size, number = ctypes.c_char_p, ctypes.c_size_t, ctypes.c_uint32
     lent = ctypes.POINTER
     functions: Dict[str, Tuple[Any, List[Any]]] = {
@@ -369,12 +375,15 @@ def _load() -> ctypes.CDLL:
         "mewikofu_cut": (_Cut, [data, size]),
     }
     for name, (answer, arguments) in functions.items():
-        function = getattr(library, name)
+        try:
+            function = getattr(library, name)
+        except AttributeError:
+            raise ImportError(f"{library._name} isn't a libmewikofu of version {__version__}: it has no {name}. {remedy}") from None
         function.restype, function.argtypes = answer, arguments
     # Another version may take or answer something else.
     version = library.mewikofu_version().decode()
     if version != __version__:
-        raise ImportError(f"the shared object {library._name} is of version {version}, and the package of {__version__}")
+        raise ImportError(f"{library._name} isn't a libmewikofu of version {__version__}: it is of version {version}. {remedy}")
     return library
 
 

@@ -344,7 +344,7 @@ class ThreadsTest(unittest.TestCase):
 
 
 class ImportTest(unittest.TestCase):
-    """The import in a process of its own, of a package without its shared object."""
+    """The import in a process of its own, of a package without its shared object or with another one."""
 
     def imported(self, folder, library):
         """Exit status and the last line of what is said."""
@@ -373,9 +373,23 @@ class ImportTest(unittest.TestCase):
             versions = f'__version__ = "{mewikofu.__version__}"', '__version__ = "9.9.9"'
             Path(f"{folder}/mewikofu/__init__.py").write_text(module.replace(*versions))
             library = str(HERE.parent / "mewikofu/libmewikofu.so")
+            wrong = f"isn't a libmewikofu of version 9.9.9: it is of version {mewikofu.__version__}."
             status, said = self.imported(folder, library)
             self.assertEqual(status, 1)
-            self.assertEqual(said, f"ImportError: the shared object {library} is of version {mewikofu.__version__}, and the package of 9.9.9")
+            self.assertEqual(said, f"ImportError: {library} {wrong} Unset MEWIKOFU_LIBRARY, or name a libmewikofu of version 9.9.9 in it.")
+            # As the package's own.
+            own = shutil.copy(library, f"{folder}/mewikofu")
+            status, said = self.imported(folder, "")
+            self.assertEqual(status, 1)
+            self.assertTrue(said.startswith(f"ImportError: {own} {wrong} In the repository, "), said)
+            self.assertIn("run `bindings/python/build`", said)
+
+    def test_another_library(self):
+        # The C library has none of the functions; version 0.1.0 had no mewikofu_version.
+        status, said = self.imported(str(HERE.parent), "libc.so.6")
+        version = f"libmewikofu of version {mewikofu.__version__}"
+        self.assertEqual(status, 1)
+        self.assertEqual(said, f"ImportError: libc.so.6 isn't a {version}: it has no mewikofu_version. Unset MEWIKOFU_LIBRARY, or name a {version} in it.")
 
 
 class VersionTest(unittest.TestCase):

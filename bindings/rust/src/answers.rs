@@ -1,5 +1,6 @@
 //! The answers of the step view and the cutter (document 01, "Totals and book", "Steps and prices").
 
+use crate::refusal::{accepted, Refusal};
 use crate::{raw, MATCHES, MOST_STEPS, SCHEDULES};
 
 /// What no step takes of a line's operating total, pricing total and effective actual, since it is above the greatest break of the line's bids
@@ -43,15 +44,21 @@ pub struct View {
     pub excess: Excess,
 }
 
-impl From<raw::View> for View {
-    /// Without the number.
-    fn from(answer: raw::View) -> View {
+impl TryFrom<raw::View> for View {
+    type Error = Refusal;
+
+    /// The answer without its number, or the refusal of this number.
+    ///
+    /// # Panics
+    ///
+    /// Where the number is none of the table, which no archive of this version answers.
+    fn try_from(answer: raw::View) -> Result<View, Refusal> {
         let raw::View {
             initial,
             revised,
             modified,
             finals,
-            number: _,
+            number,
             end,
             width,
             actual,
@@ -65,7 +72,8 @@ impl From<raw::View> for View {
             matches,
             excess,
         } = answer;
-        View {
+        accepted(number)?;
+        Ok(View {
             end,
             width,
             actual,
@@ -82,7 +90,7 @@ impl From<raw::View> for View {
             modified,
             finals,
             excess,
-        }
+        })
     }
 }
 
@@ -116,25 +124,28 @@ pub struct Cut {
     pub missing: [u32; SCHEDULES],
 }
 
-impl From<raw::Cut> for Cut {
-    /// Without the number and the reserved word.
-    fn from(answer: raw::Cut) -> Cut {
+impl TryFrom<raw::Cut> for Cut {
+    type Error = Refusal;
+
+    /// The answer without its number and the reserved word, or the refusal of this number. It panics where a view's does.
+    fn try_from(answer: raw::Cut) -> Result<Cut, Refusal> {
         let raw::Cut {
             flags,
-            number: _,
+            number,
             count,
             missing,
             ends,
             prices,
             reserved: _,
         } = answer;
-        Cut {
+        accepted(number)?;
+        Ok(Cut {
             count,
             ends,
             prices,
             flags,
             missing,
-        }
+        })
     }
 }
 

@@ -40,16 +40,12 @@ pub fn settle_into(day: &[u8], book: &mut [u8]) -> Result<(), Refusal> {
 
 /// Every figure of a step of a line, both counted from 0.
 pub fn view(day: &[u8], line: usize, step: usize) -> Result<View, Refusal> {
-    let answer = raw::view(day, line, step);
-    refusal::accepted(answer.number)?;
-    Ok(answer.into())
+    raw::view(day, line, step).try_into()
 }
 
 /// Cuts the 660 bytes of one line into its steps.
 pub fn cut(line: &[u8]) -> Result<Cut, Refusal> {
-    let answer = raw::cut(line);
-    refusal::accepted(answer.number)?;
-    Ok(answer.into())
+    raw::cut(line).try_into()
 }
 
 /// The bytes of line k (from 0) within the day's own. Only the day's header is checked.

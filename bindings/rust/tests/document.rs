@@ -1,8 +1,8 @@
 //! The binding beside document 01, docs/REFUSALS.md and include/mewikofu.h.
 
 use mewikofu::{
-    cut, line_part, match_place, raw, settle, view, Accreditation, Excess, Refusal, Side,
-    MOST_EXCESS,
+    cut, line_part, match_place, raw, settle, view, Accreditation, Cut, Excess, Refusal, Side,
+    View, MOST_EXCESS,
 };
 use std::mem::offset_of;
 
@@ -56,6 +56,40 @@ fn a_refused_day() {
         text.ends_with("(document 01, \"Where each refusal is checked\", each line)"),
         "{text}"
     );
+}
+
+/// Answers with a number and 0 in all other fields.
+fn numbered_view(number: u32) -> raw::View {
+    raw::View {
+        number,
+        ..raw::View::default()
+    }
+}
+
+fn numbered_cut(number: u32) -> raw::Cut {
+    raw::Cut {
+        flags: [0; 5],
+        number,
+        count: 0,
+        missing: [0; 5],
+        ends: [0; 56],
+        prices: [[0; 56]; 5],
+        reserved: 0,
+    }
+}
+
+/// Of a refused answer no figures are made.
+#[test]
+fn refused_answers() {
+    for refusal in Refusal::ALL {
+        let number = refusal.number();
+        assert_eq!(View::try_from(numbered_view(number)), Err(refusal));
+        assert_eq!(Cut::try_from(numbered_cut(number)), Err(refusal));
+    }
+    assert_eq!(View::try_from(numbered_view(0)), Ok(View::default()));
+    assert_eq!(Cut::try_from(numbered_cut(0)), Ok(Cut::default()));
+    assert_eq!(view(&[], 0, 0), Err(Refusal::FileShort));
+    assert_eq!(cut(&[]), Err(Refusal::LineLength));
 }
 
 /// K10's day with an accreditation word, where the header has it.
@@ -193,21 +227,8 @@ fn excess(day: &[u8]) -> Excess {
 fn assert_totals_refused(day: &[u8]) {
     assert_eq!(settle(day), Err(Refusal::Totals));
     assert_eq!(view(day, 0, 0), Err(Refusal::Totals));
-    let refused = raw::View {
-        number: 12,
-        ..raw::View::default()
-    };
-    assert_eq!(raw::view(day, 0, 0), refused);
-    let refused = raw::Cut {
-        flags: [0; 5],
-        number: 12,
-        count: 0,
-        missing: [0; 5],
-        ends: [0; 56],
-        prices: [[0; 56]; 5],
-        reserved: 0,
-    };
-    assert_eq!(raw::cut(&day[64..]), refused);
+    assert_eq!(raw::view(day, 0, 0), numbered_view(12));
+    assert_eq!(raw::cut(&day[64..]), numbered_cut(12));
 }
 
 /// K10's M is 3,000. The excess of one schedule's total alone: operating row s, and pricing row s in interval 5, which for s below 5 no other total has.

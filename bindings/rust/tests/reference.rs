@@ -1,10 +1,12 @@
 //! The binding beside the reference implementation, on generated days without fault and damaged.
 //! MEWIKOFU_DAYS in the environment is how many days, 20,000 where it isn't set.
 
-use mewikofu::{book_bytes, cut, line_part, raw, settle, settle_into, view, Refusal, Side};
+use mewikofu::{
+    book_bytes, cut, line_part, raw, settle, settle_into, view, Cut, Refusal, Side, View,
+};
 use reference::generate::{
-    damaged_day, excess_day, excess_fault_day, pulled_day, pulled_fault_day, set_day,
-    set_fault_day, valid_day,
+    damaged_day, excess_day, excess_fault_day, over_delivery_day, pulled_day, pulled_fault_day,
+    set_day, set_fault_day, valid_day,
 };
 use reference::layout::{day_length, signed, word, LINE_BYTES, MOST_LINES};
 
@@ -17,7 +19,7 @@ fn days() -> u64 {
 }
 
 /// Seeds in a row; every second day is damaged, of eight days two have accreditation by schedule, two pulled bids and two totals above the
-/// greatest break. Boxed, so that memcheck sees a read past the end.
+/// greatest break, half of those that aren't damaged with more delivered than scheduled. Boxed, so that memcheck sees a read past the end.
 fn day(k: u64) -> Box<[u8]> {
     const DRAWS: [fn(u64) -> Vec<u8>; 8] = [
         valid_day,
@@ -26,7 +28,10 @@ fn day(k: u64) -> Box<[u8]> {
         set_fault_day,
         pulled_day,
         pulled_fault_day,
-        excess_day,
+        |seed| match seed % 2 {
+            0 => excess_day(seed),
+            _ => over_delivery_day(seed),
+        },
         excess_fault_day,
     ];
     DRAWS[k as usize % 8](k / 8).into()
@@ -186,7 +191,7 @@ fn check_view(at: &str, day: &[u8], line: usize, step: usize, expected: referenc
     };
     assert_eq!(raw::view(day, line, step), expected, "{at}");
     match expected.number {
-        0 => assert_eq!(view(day, line, step), Ok(expected.into()), "{at}"),
+        0 => assert_eq!(view(day, line, step), View::try_from(expected), "{at}"),
         number => assert_eq!(view(day, line, step), refused(number), "{at}"),
     }
 }
@@ -246,7 +251,7 @@ fn check_cut(at: &str, bytes: &[u8], expected: reference::cut::Cut) {
     };
     assert_eq!(raw::cut(bytes), expected, "{at}");
     match expected.number {
-        0 => assert_eq!(cut(bytes), Ok(expected.into()), "{at}"),
+        0 => assert_eq!(cut(bytes), Cut::try_from(expected), "{at}"),
         number => assert_eq!(cut(bytes), refused(number), "{at}"),
     }
 }

@@ -70,7 +70,7 @@ pub fn text(name: &str, explained: &Explained, wanted: &Wanted) -> String {
                 .iter()
                 .filter(|reason| reason.line == k && wanted.has(reason))
         };
-        // Without a line named, lines that nothing is paid for are left to one sentence.
+        // Without a line named, lines that nothing is paid for are left to one sentence, and one for each excess.
         let shown =
             wanted.line == Some(k) || (wanted.line.is_none() && of_line().any(Reason::is_payment));
         if shown {
@@ -274,6 +274,11 @@ fn put_rest(text: &mut Text, explained: &Explained, wanted: &Wanted) {
                 steps(&unpaid).replacen("Step", "Line", 1)
             ),
         );
+        for k in unpaid {
+            if let Some(excess) = excess::statement(&day.lines[k], gj) {
+                text.put(0, &format!("In line {k} {excess}"));
+            }
+        }
     }
     if wanted.schedule.is_none() {
         text.gap();

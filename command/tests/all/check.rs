@@ -7,12 +7,15 @@ use crate::{
     with_pulled, with_sets,
 };
 use mewikofu::Refusal;
+use mewikofu_command::amounts::grouped;
+use mewikofu_command::excess;
+use mewikofu_command::figures::Figures;
 use mewikofu_command::input::Input;
 use mewikofu_command::outcome::Status;
 use mewikofu_command::refusals::{cut_faults, day_faults, explain_day};
 use reference::generate::{
     damaged_day, damaged_day_and_number, damaged_line, edge_days, excess_day, excess_fault_day,
-    excess_fault_line, valid_day,
+    excess_fault_line, small_excess_day, valid_day,
 };
 use reference::layout::put_word;
 use std::collections::{BTreeMap, BTreeSet};
@@ -29,12 +32,43 @@ fn refused(arguments: &[&str], day: &[u8]) -> String {
 fn accepted() {
     let text = run(&["make", "--check"], example_text().as_bytes()).text();
     assert_eq!(text, "standard input: accepted\n");
-    for name in EXAMPLES {
+    for name in EXAMPLES.iter().filter(|&&name| name != "excess") {
         assert_eq!(
             run(&["check"], &example(name)).text(),
             "standard input: accepted\n"
         );
     }
+}
+
+/// Of an accepted day the text says what is above a greatest break; table and JSON say the same as of any accepted day.
+#[test]
+fn excess_of_accepted_days() {
+    let said = run(&["check", "--all"], &k10_each_excess()).text();
+    let words = "the operating total (by 900 MJ in schedule 5), the pricing total (by 1 MJ in schedule 2 and 1,000 MJ in schedule 3) \
+                 and the effective actual (by 700 MJ) are above the greatest break of the line's bids, 3,000 MJ";
+    assert_eq!(said, format!("standard input: accepted; line 0: {words}\n"));
+    for format in ["--csv", "--json"] {
+        let said = run(&["check", format], &k10_each_excess()).text();
+        let without = run(&["check", format], &stored("examples/k10.day")).text();
+        assert_eq!(said, without);
+    }
+    // The views of all lines.
+    let mut counts = [0; 2];
+    let days = (0..40).flat_map(|seed| [excess_day(seed), small_excess_day(seed), valid_day(seed)]);
+    for day in days.chain([example("excess")]) {
+        let figures = Figures::new(&day).unwrap();
+        let mut expected = String::from("standard input: accepted");
+        for (k, line) in figures.lines.iter().enumerate() {
+            let words = excess::statement(line, |value| format!("{} MJ", grouped(value.into())));
+            counts[usize::from(words.is_some())] += 1;
+            if let Some(words) = words {
+                let (above, _) = words.split_once(": no step takes").unwrap();
+                expected += &format!("; line {k}: {above}");
+            }
+        }
+        assert_eq!(run(&["check"], &day).text(), format!("{expected}\n"));
+    }
+    assert!(counts.iter().all(|&count| count > 100), "{counts:?}");
 }
 
 /// Damaged days whose number is known beforehand are refused in the words of docs/REFUSALS.md.
@@ -125,7 +159,9 @@ fn greatest_break_without_a_pulled_bid() {
         "the greatest break of its bids, 1,000 MJ (the bids of schedules 2 to 5 were pulled)";
     // The totals are up to 2,000, which is 1,000 above it.
     let said = run(&["make", "--check"], text.as_bytes()).text();
-    assert_eq!(said, "standard input: accepted\n");
+    let words = "the operating total (by 1,000 MJ in schedule 2, 1,000 MJ in schedule 3, 500 MJ in schedule 4 and 500 MJ in schedule 5) \
+                 and the effective actual (by 500 MJ) are above the greatest break of the line's bids, 1,000 MJ";
+    assert_eq!(said, format!("standard input: accepted; line 0: {words}\n"));
     let above = text.replace("operating 2..3 = 1000 1000", "operating 2..3 = 1000 1005");
     assert_ne!(above, text);
     let said = refused(&["make", "--check"], above.as_bytes());
@@ -230,11 +266,6 @@ fn places_values_and_limits() {
 /// and JSON too.
 #[test]
 fn totals_above_the_greatest_break() {
-    let accepted = |day: &[u8]| {
-        let said = run(&["check"], day).text();
-        assert_eq!(said, "standard input: accepted\n");
-    };
-    accepted(&k10_each_excess());
     // With the greatest break at the quantity limit an entry is above it.
     let most = 200_000_000;
     let breaks = (0..5).map(|bid| (5 + 23 * bid + 2, most));
@@ -248,7 +279,12 @@ fn totals_above_the_greatest_break() {
                 let words = breaks.clone().chain(cleared).chain([(place, full + over)]);
                 k10_with(&words.collect::<Vec<_>>())
             };
-            accepted(&day(1_000));
+            let said = run(&["check"], &day(1_000)).text();
+            let words = format!(
+                "standard input: accepted; line 0: the {name} total (by 1,000 MJ in schedule {s}) is above the greatest break of the line's bids, \
+                 200,000,000 MJ\n"
+            );
+            assert_eq!(said, words);
             let said = refused(&["check"], &day(1_001));
             let words = format!(
                 "{name} total of schedule {s}: 200,001,001 MJ, which is 1 MJ too much; the most is 200,001,000 MJ, which is 1,000 MJ above the \

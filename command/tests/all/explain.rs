@@ -1,8 +1,8 @@
 //! Explanations.
 
 use crate::{
-    accredited_schedules, k10_accredited, k10_each_excess, k10_operating_excess, k10_pulled, run,
-    stored, with_pulled, with_sets,
+    accredited_schedules, example_text, k10_accredited, k10_each_excess, k10_operating_excess,
+    k10_pulled, run, stored, with_pulled, with_sets,
 };
 use mewikofu_command::explain::{Explained, Reason, Rule};
 use mewikofu_command::figures::Figures;
@@ -295,6 +295,36 @@ fn excess_sentences() {
     let text = told(&[], &stored("examples/k10.day"));
     assert!(
         !text.contains("excess") && !text.contains("greatest break"),
+        "{text}"
+    );
+}
+
+/// Without --line the excess of a line that nothing is paid for is told beside that: here of line 2 and not of line 1, which has none.
+#[test]
+fn excess_of_unpaid_lines() {
+    let text = example_text();
+    let (_, line) = text.split_at(text.find("[line]").unwrap());
+    let unpaid = line.replace("accredited  = yes", "accredited = no");
+    let above = unpaid.replace("operating 2..3 = 1000 1000", "operating 2..3 = 1000 2500");
+    let [first, second] =
+        [(unpaid, "= 8"), (above, "= 9")].map(|(line, key)| line.replace("= 7", key));
+    let day = run(&["make"], format!("{text}\n{first}\n{second}").as_bytes()).output();
+    let words = "the operating total (by 0.5 in schedule 2 and 0.5 in schedule 3) is above the greatest break of the line's bids, 3: \
+                 no step takes this excess, and it is neither constrained on nor paid.";
+    let told_in = |arguments: &[&str], lines: &str, next: &str| {
+        let text = told(arguments, &day);
+        let words = format!("{lines}: nothing is paid (--line says why). In line 2 {words}{next}");
+        assert!(text.contains(&words), "{words}\n{text}");
+        assert_eq!(text.matches("excess").count(), 1, "{text}");
+        text
+    };
+    told_in(&[], "Lines 1 and 2", " Totals of all lines");
+    // Nothing at all is paid in schedule 1, and the line's whole excess is told.
+    let text = told_in(&["--schedule", "1"], "Lines 0 to 2", "");
+    assert!(text.ends_with(words), "{text}");
+    let text = told(&["--line", "2"], &day);
+    assert!(
+        !text.contains("In line") && text.contains("2 steps. The operating total (by 0.5 in"),
         "{text}"
     );
 }

@@ -47,15 +47,15 @@ fn total_most(most: u32) -> u64
 
 // Refusal 12, with the most that a total may be and the two rows of totals. The loop maintains that no total of a schedule before s is
 // above it.
-pub fn totals_number(most: u64, pricing: [u64; 5], operating: [u64; 5]) -> u32
-    ensures { λ r. ⌜ r ≡ first (totalsFault most pricing operating) 5 ⌝ }
+pub fn totals_number(limit: u64, pricing: [u64; 5], operating: [u64; 5]) -> u32
+    ensures { λ r. ⌜ r ≡ first (totalsFault limit pricing operating) 5 ⌝ }
 {
     let mut s = 0;
     while s < 5 {
-        if most < pricing[s] {
+        if limit < pricing[s] {
             return 12;
         }
-        if most < operating[s] {
+        if limit < operating[s] {
             return 12;
         }
         s += 1;

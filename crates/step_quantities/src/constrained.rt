@@ -1,4 +1,5 @@
-// Constrained on, and AGINO and MSIQ of a step, each for the five schedules at once (document 01, "Quantities").
+// The quantities of a step, each for the five schedules at once: O, E, A, AGINO, MSIQ, constrained on (document 01, "Quantities") and what no
+// step takes (document 02, F-2).
 use numbers::saturating_sub;
 use rules::Excess;
 use rules::Step;

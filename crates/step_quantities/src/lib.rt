@@ -1,2 +1,2 @@
-// The quantities of one step (document 01, "Quantities"): AGINO, MSIQ, constrained on.
+// The quantities of one step (document 01, "Quantities"; document 02, F-2): O, E, A, AGINO, MSIQ, constrained on, and the excess.
 pub mod constrained;

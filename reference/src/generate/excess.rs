@@ -101,3 +101,34 @@ fn draw_actuals(line: &mut [u8], random: &mut Random) {
         put_word(line, actual_place(i), scheduled.saturating_sub(less));
     }
 }
+
+/// The excess day of the same seed with more delivered in some intervals than scheduled.
+pub fn over_delivery_day(seed: u64) -> Vec<u8> {
+    with_over_delivery(excess_day(seed), seed)
+}
+
+/// The small day likewise.
+pub fn small_over_delivery_day(seed: u64) -> Vec<u8> {
+    with_over_delivery(small_excess_day(seed), seed)
+}
+
+fn with_over_delivery(mut day: Vec<u8>, seed: u64) -> Vec<u8> {
+    let random = &mut Random::new(seed ^ 1 << 33);
+    for k in 0..Day::new(&day).line_count() {
+        draw_over_delivery(line_mut(&mut day, k), random);
+    }
+    day
+}
+
+/// In some intervals more than scheduled in schedule 5, by an amount of the excess's size, by any or up to the limit.
+fn draw_over_delivery(line: &mut [u8], random: &mut Random) {
+    for i in 0..SCHEDULES {
+        let scheduled = word(line, operating_place(SCHEDULES - 1, i)).min(QUANTITY_LIMIT);
+        let above = (scheduled + draw_above(random)).min(QUANTITY_LIMIT);
+        let any = random.range(scheduled, QUANTITY_LIMIT);
+        let actual = random.pick(&[above, any, QUANTITY_LIMIT]);
+        if random.one_in(2) {
+            put_word(line, actual_place(i), actual);
+        }
+    }
+}

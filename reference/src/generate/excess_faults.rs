@@ -7,7 +7,7 @@ use super::line_faults::*;
 use super::pulled_faults::{at_former, at_lowered, first_bid_alone};
 use super::random::Random;
 use super::sets::first_line_twice;
-use crate::k10::k10;
+use crate::k10::k10_of;
 use crate::layout::*;
 
 /// The kinds of total.
@@ -17,7 +17,7 @@ const FAULTS: Faults = Faults {
     of_line: OF_LINE,
     of_day: OF_DAY,
     of_line_alone: OF_LINE_ALONE,
-    further: (0, |_, _, _| 0),
+    further: None,
     change: exceed_some,
 };
 
@@ -33,11 +33,11 @@ const OF_LINE: &[LineFault] = &[
     (12, |line, random| put_some_wrapping(line, random, NOTHING)),
     // M at the quantity limit, which entries then pass.
     (0, |line, random| {
-        raise_most(line);
+        raise_most(line, QUANTITY_LIMIT);
         put_above(line, random, 1000);
     }),
     (12, |line, random| {
-        raise_most(line);
+        raise_most(line, QUANTITY_LIMIT);
         put_above(line, random, 1001);
     }),
     // All ten totals.
@@ -65,8 +65,7 @@ const OF_LINE: &[LineFault] = &[
     // Limits that stay where a total exceeds M.
     (8, |line, random| {
         put_above(line, random, 1000);
-        let last = word(line, count_place(0)) as usize - 1;
-        put_word(line, break_place(0, last), QUANTITY_LIMIT + 1);
+        raise_most(line, QUANTITY_LIMIT + 1);
     }),
     (11, |line, random| {
         put_above(line, random, 1000);
@@ -137,18 +136,18 @@ fn put_all_above(line: &mut [u8], above: u32) {
     }
 }
 
-/// Makes M the quantity limit, by the first bid.
-fn raise_most(line: &mut [u8]) {
+/// Makes M this one, which is no less, by the first bid.
+fn raise_most(line: &mut [u8], most: u32) {
     let last = word(line, count_place(0)) as usize - 1;
-    put_word(line, break_place(0, last), QUANTITY_LIMIT);
+    put_word(line, break_place(0, last), most);
 }
 
 /// An operating total of schedule 5 in one entry, 1,000 above the quantity limit, and the actual there.
 fn put_actual_at_limit(line: &mut [u8], above: u32) {
-    raise_most(line);
-    let entries = OPERATING(SCHEDULES - 1);
-    entries.iter().for_each(|&place| put_word(line, place, 0));
-    put_word(line, entries[2], QUANTITY_LIMIT + 1000);
+    let s = SCHEDULES - 1;
+    raise_most(line, QUANTITY_LIMIT);
+    clear_total(line, OPERATING, s);
+    put_word(line, operating_place(s, 2), QUANTITY_LIMIT + 1000);
     put_word(line, actual_place(2), QUANTITY_LIMIT + above);
 }
 
@@ -165,11 +164,7 @@ fn put_some_wrapping(line: &mut [u8], random: &mut Random, total: Beyond) {
 /// Makes a schedule's total a sum above 32 bits of five words that aren't 0. Other totals of the kind are small: the
 /// entries that they share are 2, and their own 0. `total` is given the number of entries that are the schedule's own.
 fn put_wrapping(line: &mut [u8], entries: Entries, s: usize, total: Beyond) {
-    (0..SCHEDULES).for_each(|s| {
-        entries(s)
-            .iter()
-            .for_each(|&place| put_word(line, place, 0))
-    });
+    (0..SCHEDULES).for_each(|s| clear_total(line, entries, s));
     let is_other = |place: &usize| (0..SCHEDULES).any(|r| r != s && entries(r).contains(place));
     let (shared, own): (Vec<usize>, Vec<usize>) = entries(s).iter().partition(|p| is_other(p));
     shared.iter().for_each(|&place| put_word(line, place, 2));
@@ -179,6 +174,11 @@ fn put_wrapping(line: &mut [u8], entries: Entries, s: usize, total: Beyond) {
         let part = sum / count + u64::from((k as u64) < sum % count);
         put_word(line, place, part as u32);
     }
+}
+
+/// How many kinds of damaged day there are, and of damaged line.
+pub fn excess_fault_kinds() -> [usize; 2] {
+    FAULTS.kinds()
 }
 
 pub fn excess_fault_day(seed: u64) -> Vec<u8> {
@@ -199,64 +199,61 @@ pub fn excess_fault_line_and_number(seed: u64) -> (Vec<u8>, u32) {
     FAULTS.line(seed)
 }
 
-/// The day of K10, with M as 3000 and then as the quantity limit: pricing, then operating totals, of schedule 1, .. 5
-/// alone, at M + 1, M + 999, M + 1,000 and M + 1,001, and two sums above 32 bits; then sums above 32 bits in all
-/// schedules.
-pub fn excess_k10_days() -> Vec<Vec<u8>> {
+/// The day of K10 with its line of this side, with M as 3000 and then as the quantity limit: pricing, then operating
+/// totals, of schedule 1, .. 5 alone, at M + 1, M + 999, M + 1,000 and M + 1,001, and two sums above 32 bits; then sums
+/// above 32 bits in all schedules.
+pub fn excess_k10_days(side: Side) -> Vec<Vec<u8>> {
     let mut days = Vec::new();
     for most in [3000, QUANTITY_LIMIT] {
-        for (entries, s) in KINDS
-            .iter()
-            .flat_map(|&k| (0..SCHEDULES).map(move |s| (k, s)))
-        {
+        let day = k10_with_most(side, most);
+        let schedules = |&entries| (0..SCHEDULES).map(move |s| (entries, s));
+        for (entries, s) in KINDS.iter().flat_map(schedules) {
             let above = [1, 999, 1000, 1001];
-            days.extend(above.map(|above| k10_above(most, entries, s, above)));
-            days.extend([LITTLE, NOTHING].map(|total| k10_wrapping(most, entries, s, total)));
+            days.extend(above.map(|above| with_total(&day, entries, s, most + above)));
+            days.extend([LITTLE, NOTHING].map(|total| with_wrapping(&day, entries, s, total)));
         }
     }
-    days.extend(KINDS.map(k10_wrapping_in_all));
+    days.extend(KINDS.map(|entries| k10_wrapping_in_all(side, entries)));
     days
 }
 
 /// The lines of those days.
-pub fn excess_k10_lines() -> Vec<Vec<u8>> {
-    let mut days = excess_k10_days();
+pub fn excess_k10_lines(side: Side) -> Vec<Vec<u8>> {
+    let mut days = excess_k10_days(side);
     days.iter_mut()
         .for_each(|day| drop(day.drain(..LINES_OFFSET)));
     days
 }
 
 /// K10's day with this M, and in the last interval an actual at its limit.
-fn k10_with_most(most: u32) -> Vec<u8> {
-    let mut day = k10();
+fn k10_with_most(side: Side, most: u32) -> Vec<u8> {
+    let mut day = k10_of(side);
     let line = line_mut(&mut day, 0);
     put_word(line, break_place(2, 1), most);
     put_word(line, actual_place(SCHEDULES - 1), QUANTITY_LIMIT);
     day
 }
 
-/// Where M is the quantity limit the whole total is in the last entry, which passes that limit.
-fn k10_above(most: u32, entries: Entries, s: usize, above: u32) -> Vec<u8> {
-    let mut day = k10_with_most(most);
+/// A total above the quantity limit is in the last entry as a whole, which then passes that limit.
+fn with_total(day: &[u8], entries: Entries, s: usize, total: u32) -> Vec<u8> {
+    let mut day = day.to_vec();
     let line = line_mut(&mut day, 0);
-    if most == QUANTITY_LIMIT {
-        entries(s)
-            .iter()
-            .for_each(|&place| put_word(line, place, 0));
+    if total > QUANTITY_LIMIT {
+        clear_total(line, entries, s);
     }
-    put_total(line, entries, s, most + above);
+    put_total(line, entries, s, total);
     day
 }
 
-fn k10_wrapping(most: u32, entries: Entries, s: usize, total: Beyond) -> Vec<u8> {
-    let mut day = k10_with_most(most);
+fn with_wrapping(day: &[u8], entries: Entries, s: usize, total: Beyond) -> Vec<u8> {
+    let mut day = day.to_vec();
     put_wrapping(line_mut(&mut day, 0), entries, s, total);
     day
 }
 
 /// Each of the five totals is 2^32 + 4.
-fn k10_wrapping_in_all(entries: Entries) -> Vec<u8> {
-    let mut day = k10();
+fn k10_wrapping_in_all(side: Side, entries: Entries) -> Vec<u8> {
+    let mut day = k10_of(side);
     let places = (0..SCHEDULES).flat_map(entries);
     places.for_each(|place| put_word(line_mut(&mut day, 0), place, 858_993_460));
     day

@@ -19,12 +19,22 @@ pub struct Faults {
     pub of_day: &'static [Fault],
     /// Of a line alone, as the cutter meets it.
     pub of_line_alone: &'static [Fault],
-    pub further: Further,
+    pub further: Option<Further>,
     /// What is done to the other lines of a day.
     pub change: fn(&mut [u8], &mut Random),
 }
 
 impl Faults {
+    /// How many kinds of damaged day there are, and of damaged line.
+    pub fn kinds(&self) -> [usize; 2] {
+        [self.of_day, self.of_line_alone].map(|of_whole| self.kinds_with(of_whole))
+    }
+
+    fn kinds_with(&self, of_whole: &[Fault]) -> usize {
+        let further = self.further.map_or(0, |(count, _)| count);
+        self.of_line.len() + of_whole.len() + further
+    }
+
     /// A day of 2 to 4 lines and its number. Seeds in a row go through all the faults.
     pub fn day(&self, seed: u64) -> (Vec<u8>, u32) {
         let (mut day, start) = day_to_damage(seed, self.change);
@@ -42,19 +52,20 @@ impl Faults {
     /// Puts a fault into the line at `start`, or into the whole, and answers its number.
     fn damage(&self, bytes: &mut Vec<u8>, start: usize, seed: u64, of_whole: &[Fault]) -> u32 {
         let random = &mut Random::new(!seed);
-        let (count, put_further) = self.further;
-        let kinds = self.of_line.len() + of_whole.len() + count;
-        let kind = (seed % kinds as u64) as usize;
+        let kind = (seed % self.kinds_with(of_whole) as u64) as usize;
         let line = &mut bytes[start..][..LINE_BYTES];
         if let Some((number, apply)) = self.of_line.get(kind) {
             apply(line, random);
             return *number;
         }
         let kind = kind - self.of_line.len();
-        if let Some((number, apply)) = of_whole.get(kind) {
-            apply(bytes);
-            return *number;
+        match self.further {
+            Some((_, put)) if kind >= of_whole.len() => put(line, random, kind - of_whole.len()),
+            _ => {
+                let (number, apply) = of_whole[kind];
+                apply(bytes);
+                number
+            }
         }
-        put_further(line, random, kind - of_whole.len())
     }
 }

@@ -288,6 +288,12 @@ pub type Entries = fn(usize) -> BySchedule<usize>;
 pub const PRICING: Entries = |s| std::array::from_fn(|i| pricing_place(s.min(i), i));
 pub const OPERATING: Entries = |s| std::array::from_fn(|i| operating_place(s, i));
 
+/// Makes the entries of a schedule's total 0.
+pub fn clear_total(line: &mut [u8], entries: Entries, s: usize) {
+    let places = entries(s).into_iter();
+    places.for_each(|place| put_word(line, place, 0));
+}
+
 /// Makes a schedule's total this one by its last entry, which is in no other total.
 pub fn put_total(line: &mut [u8], entries: Entries, s: usize, total: u32) {
     let [others @ .., last] = entries(s);

@@ -16,16 +16,18 @@ use crate::layout::*;
 use day_faults::{line_mut, line_with_own_key, DAY_FAULTS};
 use draw::{draw_day, draw_line, Scale};
 pub use edges::edge_days;
-pub use excess::{excess_day, excess_line, small_excess_day};
+pub use excess::{
+    excess_day, excess_line, over_delivery_day, small_excess_day, small_over_delivery_day,
+};
 pub use excess_faults::{
-    excess_fault_day, excess_fault_day_and_number, excess_fault_line, excess_fault_line_and_number,
-    excess_k10_days, excess_k10_lines,
+    excess_fault_day, excess_fault_day_and_number, excess_fault_kinds, excess_fault_line,
+    excess_fault_line_and_number, excess_k10_days, excess_k10_lines,
 };
 use line_faults::{damage_line, LINE_FAULTS};
 pub use pulled::{pulled_day, pulled_line, small_pulled_day};
 pub use pulled_faults::{
-    k10_pulled, pulled_fault_day, pulled_fault_day_and_number, pulled_fault_line,
-    pulled_fault_line_and_number, pulled_k10_days,
+    k10_pulled, pulled_fault_day, pulled_fault_day_and_number, pulled_fault_kinds,
+    pulled_fault_line, pulled_fault_line_and_number, pulled_k10_days,
 };
 use random::Random;
 pub use sets::{

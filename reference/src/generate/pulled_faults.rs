@@ -15,7 +15,7 @@ const FAULTS: Faults = Faults {
     of_line: OF_LINE,
     of_day: OF_DAY,
     of_line_alone: OF_LINE_ALONE,
-    further: (SLOTS, put_slot),
+    further: Some((SLOTS, put_slot)),
     change: pull_some,
 };
 
@@ -140,7 +140,7 @@ const OF_LINE: &[LineFault] = &[
         put_word(line, HEDGE, u32::MAX);
     }),
     (11, |line, random| {
-        at_former(line, random, OPERATING, 0);
+        at_former(line, random, OPERATING, 1000);
         put_word(line, HEDGE, u32::MAX);
     }),
     (13, |line, random| {
@@ -252,6 +252,11 @@ fn put_slot(line: &mut [u8], random: &mut Random, slot: usize) -> u32 {
     let bid = pull_later(line, random);
     put_word(line, count_place(bid) + 1 + slot, 1);
     10
+}
+
+/// How many kinds of damaged day there are, and of damaged line.
+pub fn pulled_fault_kinds() -> [usize; 2] {
+    FAULTS.kinds()
 }
 
 pub fn pulled_fault_day(seed: u64) -> Vec<u8> {

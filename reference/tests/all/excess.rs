@@ -4,7 +4,8 @@ use crate::pulled::put_bid;
 use crate::reach::excess_of;
 use crate::{book_of, excess_days, line_count, numbers, K10_FIRST_STEP};
 use reference::cut::cut;
-use reference::k10::k10;
+use reference::generate::excess_k10_days;
+use reference::k10::k10_of;
 use reference::layout::*;
 use reference::quantities::{allocate, Allocation};
 use reference::refusal::line_part_number;
@@ -34,11 +35,45 @@ fn allocation() {
 
 /// K10's day with some words of its line put.
 fn k10_with(words: &[(usize, u32)]) -> Vec<u8> {
-    let mut day = k10();
+    k10_of_side_with(Side::Injection, words)
+}
+
+fn k10_of_side_with(side: Side, words: &[(usize, u32)]) -> Vec<u8> {
+    let mut day = k10_of(side);
     for &(place, value) in words {
         put_word(&mut day[LINES_OFFSET..], place, value);
     }
     day
+}
+
+const SIDES: [Side; 2] = [Side::Injection, Side::Withdrawal];
+
+/// The numbers of that day on each side.
+fn numbers_with(words: &[(usize, u32)]) -> [[u32; 4]; 2] {
+    SIDES.map(|side| numbers(&k10_of_side_with(side, words)))
+}
+
+/// K10's line as a withdrawal, also with totals above M: prices are as far from the market price, 30000, on its other
+/// side, and all other figures are those of the injection.
+#[test]
+fn k10_as_a_withdrawal() {
+    let [mut injections, mut withdrawals] = SIDES.map(excess_k10_days);
+    injections.push(k10_of(Side::Injection));
+    withdrawals.push(k10_of(Side::Withdrawal));
+    assert_eq!(injections.len(), withdrawals.len());
+    for (injection, withdrawal) in injections.iter().zip(&withdrawals) {
+        assert_eq!(numbers(injection), numbers(withdrawal));
+        let report = settle_report(injection).replace("INJ", "WDR");
+        assert_eq!(settle_report(withdrawal), report);
+        for step in 0..2 {
+            let expected = view(injection, 0, step);
+            let price = match expected.number {
+                0 => expected.price.map(|price| 60_000 - price),
+                _ => [0; 5],
+            };
+            assert_eq!(view(withdrawal, 0, step), View { price, ..expected });
+        }
+    }
 }
 
 /// M is 3000. Every pricing total of K10 is 1000, and its operating totals are 1000, 2000, 2000, 1500 and 1500; here
@@ -52,9 +87,9 @@ fn totals_of_k10_up_to_4000() {
             (operating_place(s, 4), operating),
         ] {
             for (total, number) in [(3000, 0), (3001, 0), (3999, 0), (4000, 0), (4001, 12)] {
-                let day = k10_with(&[(place, total - other)]);
-                assert_eq!(numbers(&day), [number; 4], "{total} in schedule {s}");
-                assert_eq!(line_part_number(&day, 0), 0);
+                let words = [(place, total - other)];
+                assert_eq!(numbers_with(&words), [[number; 4]; 2], "{total} in {s}");
+                assert_eq!(line_part_number(&k10_with(&words), 0), 0);
             }
         }
     }
@@ -71,7 +106,7 @@ fn entries_above_the_quantity_limit() {
         for (cleared, last) in [operating, pricing].into_iter().zip(last) {
             for (total, number) in [(200_000_001, 0), (200_001_000, 0), (200_001_001, 12)] {
                 let words = [&cleared[..], &[raised, (last, total)]].concat();
-                assert_eq!(numbers(&k10_with(&words)), [number; 4], "{total}");
+                assert_eq!(numbers_with(&words), [[number; 4]; 2], "{total}");
             }
         }
     }
@@ -98,7 +133,7 @@ fn sums_above_32_bits() {
     for s in 0..SCHEDULES {
         for row in ROWS {
             let words: Vec<_> = (0..5).map(|i| (operating_place(s, i), row[i])).collect();
-            assert_eq!(numbers(&k10_with(&words)), [12; 4], "{row:?}");
+            assert_eq!(numbers_with(&words), [[12; 4]; 2], "{row:?}");
         }
     }
     let pricing: [&[(usize, u32)]; 5] = [
@@ -110,7 +145,7 @@ fn sums_above_32_bits() {
     ];
     for (s, own) in pricing.into_iter().enumerate() {
         let words: Vec<_> = own.iter().map(|&(i, x)| (pricing_place(s, i), x)).collect();
-        assert_eq!(numbers(&k10_with(&words)), [12; 4], "pricing of {s}");
+        assert_eq!(numbers_with(&words), [[12; 4]; 2], "pricing of {s}");
     }
 }
 

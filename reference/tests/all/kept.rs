@@ -1,8 +1,10 @@
-//! The files kept under crates: what this program makes for the other implementation's programs to be run on and held to.
+//! The files kept under crates: what this program makes for the other implementation's programs to be run on and held
+//! to.
 
 use crate::programs::run;
 use crate::K10_REPORT;
 use reference::cut::cut;
+use reference::generate::{excess_fault_kinds, pulled_fault_kinds};
 use reference::layout::{MOST_STEPS, SIDE};
 use reference::line_part::line_part;
 use reference::pack;
@@ -53,6 +55,14 @@ fn assert_all_numbers(pack: &[u8], wanted: impl IntoIterator<Item = u32>) {
 const PULLED_NUMBERS: [u32; 9] = [0, 6, 7, 8, 9, 10, 11, 13, 14];
 const EXCESS_NUMBERS: [u32; 8] = [0, 6, 8, 10, 11, 12, 13, 14];
 
+/// The packs have all kinds of fault: of days by seeds in a row, of lines by every third seed. `check_steps` leaves out
+/// the last 22 of pulled bids, their slots.
+#[test]
+fn kinds_of_fault() {
+    assert_eq!(pulled_fault_kinds(), [64, 186 / 3]);
+    assert_eq!(excess_fault_kinds(), [33, 93 / 3]);
+}
+
 #[test]
 fn examples() {
     let made: [(&str, &[&str]); 4] = [
@@ -88,8 +98,8 @@ fn worked_by_hand() {
 fn day_numbers() {
     let damaged = made(&["days 4608 57 damaged"]);
     let sets = made(&["accreditations", "days 0 34 set-faults"]);
-    let pulled = made(&["pulled", "days 0 63 pulled-faults"]);
-    let excess = made(&["excess", "days 0 33 excess-faults"]);
+    let pulled = made(&["pulled", "days 0 64 pulled-faults"]);
+    let excess = made(&["excess", "days 0 33 excess-faults", "excess withdrawals"]);
     let edges = made(&["edges"]);
     let pack = [&edges[..], &damaged, &sets, &pulled, &excess].concat();
     assert!(kept("check_day_numbers", "stdin") == pack);
@@ -121,13 +131,16 @@ fn settle_days() {
     let pulled = made(&[
         "days 260 36 pulled",
         "days 630 30 small-pulled",
-        "days 0 63 pulled-faults",
+        "days 0 64 pulled-faults",
     ]);
     let excess = made(&[
         "excess",
         "days 1380 24 excess",
         "days 1380 24 small-excess",
         "days 0 33 excess-faults",
+        "excess withdrawals",
+        "days 1386 24 over-delivery",
+        "days 545 24 small-over-delivery",
     ]);
     let packs = [&mixed[..], &sets, &pulled, &excess];
     assert!(kept("check_settle", "stdin") == packs.concat());
@@ -165,8 +178,12 @@ fn counts_and_numbers(mut pack: &[u8]) -> (BTreeSet<(u8, u32)>, BTreeSet<u32>) {
 fn cut_lines() {
     let lines = made(&["lines 1 1000"]);
     let sets = made(&["lines 1 96 sets"]);
-    let pulled = made(&["lines 1 183 pulled"]);
-    let excess = made(&["lines 1 93 excess", "excess-lines"]);
+    let pulled = made(&["lines 1 186 pulled"]);
+    let excess = made(&[
+        "lines 1 93 excess",
+        "excess-lines",
+        "excess-lines withdrawals",
+    ]);
     let pack = [&lines[..], &sets, &pulled, &excess].concat();
     assert!(kept("check_cut", "stdin") == pack);
     assert!(kept("check_cut", "stdout") == run(&["expect", "cut"], &pack));
@@ -205,12 +222,13 @@ fn steps_days() {
     let sets = made(&["days 2300 72 small-sets"]);
     let set_faults = made(&["days 0 34 set-faults"]);
     let pulled = made(&["days 2550 30 small-pulled"]);
-    let pulled_faults = made(&["days 0 41 pulled-faults"]);
+    let pulled_faults = made(&["days 0 42 pulled-faults"]);
     let excess = made(&["days 7980 30 small-excess"]);
-    let excess_limits = made(&["excess", "days 0 33 excess-faults"]);
+    let excess_limits = made(&["excess", "days 0 33 excess-faults", "excess withdrawals"]);
+    let over_delivery = made(&["days 2497 24 small-over-delivery"]);
     let with_sets = [&sets[..], &set_faults].concat();
     let with_pulled = [&pulled[..], &pulled_faults].concat();
-    let with_excess = [&excess[..], &excess_limits].concat();
+    let with_excess = [&excess[..], &excess_limits, &over_delivery].concat();
     let pack = [&small[..], &damaged, &with_sets, &with_pulled, &with_excess].concat();
     assert!(kept("check_steps", "stdin") == pack);
     assert!(kept("check_steps", "stdout") == run(&["expect", "steps"], &pack));
@@ -218,6 +236,7 @@ fn steps_days() {
     assert_eq!(numbers(&sets), "0\n".repeat(72));
     assert_eq!(numbers(&pulled), "0\n".repeat(30));
     assert_eq!(numbers(&excess), "0\n".repeat(30));
+    assert_eq!(numbers(&over_delivery), "0\n".repeat(24));
     assert_all_numbers(&damaged, 0..=14);
     assert_all_numbers(&set_faults, [0, 5, 6, 13, 14]);
     assert_all_numbers(&pulled_faults, PULLED_NUMBERS);

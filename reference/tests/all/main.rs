@@ -1,4 +1,4 @@
-//! Tests of the reference implementation. Expected figures are those of document 01 and the functional design.
+//! Tests of the reference implementation. Expected figures are those of documents 01 and 02 and the functional design.
 
 mod excess;
 mod figures;
@@ -16,7 +16,7 @@ mod second;
 mod sets;
 mod worked;
 
-use reference::generate::{excess_day, pulled_day, set_day, valid_day};
+use reference::generate::{excess_day, over_delivery_day, pulled_day, set_day, valid_day};
 use reference::layout::{book_length, LINES_OFFSET};
 use reference::refusal::{cut_number, day_number, settle_number, view_number};
 use reference::settle::settle;
@@ -54,9 +54,13 @@ fn pulled_days() -> impl Iterator<Item = Vec<u8>> {
     (0..300).map(pulled_day)
 }
 
-/// Days with totals above M, in part with accreditation by schedule or pulled bids.
+/// Days with totals above M, in part with accreditation by schedule or pulled bids, every second with more delivered
+/// than scheduled.
 fn excess_days() -> impl Iterator<Item = Vec<u8>> {
-    (0..300).map(excess_day)
+    (0..300).map(|seed| match seed % 2 {
+        0 => excess_day(seed),
+        _ => over_delivery_day(seed),
+    })
 }
 
 /// Generated days that every law, and the second computation, is tried on.

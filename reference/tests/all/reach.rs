@@ -2,6 +2,7 @@
 
 use crate::kept::entries;
 use crate::{line_count, valid_days};
+use reference::cut::Steps;
 use reference::generate::{line, line_with_steps};
 use reference::layout::*;
 use reference::quantities::{operating_totals, pricing_totals};
@@ -39,7 +40,7 @@ impl Met {
         for line in views.day.lines() {
             let steps: Vec<View> = views.line(line).collect();
             self.line(line, &steps);
-            steps.iter().for_each(|step| self.step(step, market));
+            steps.iter().for_each(|step| self.step(step));
         }
         for side in [Side::Injection, Side::Withdrawal] {
             let lines = views.day.lines().filter(|line| line.side() == side);
@@ -61,14 +62,12 @@ impl Met {
             "a line without flags",
             steps.iter().all(|v| v.flag == [0; 5]),
         );
+        let uncapped = Steps::new(line).map(|step| step.prices);
+        self.note("cap in effect", steps.iter().map(|v| v.price).ne(uncapped));
     }
 
-    fn step(&mut self, v: &View, market: &Market) {
+    fn step(&mut self, v: &View) {
         self.note("flag", v.flag != [0; 5]);
-        self.note(
-            "cap in effect",
-            (0..5).any(|s| v.price[s] == market.caps[s]),
-        );
         self.note("price limit", v.price.contains(&PRICE_LIMIT));
         self.note(
             "AGINO in all schedules",
@@ -188,7 +187,7 @@ pub enum Kind {
 
 impl Kind {
     fn of(day: &[u8]) -> Kind {
-        let is_pulled = |line: Line| (0..SCHEDULES).any(|bid| line.count(bid) == 0);
+        let is_pulled = |line: Line| (0..SCHEDULES).any(|bid| line.is_pulled(bid));
         let is_set = |line: Line| line.word(ACCREDITATION) >= EMPTY_SET;
         let day = Day::new(day);
         if day.lines().any(has_excess) {

@@ -3,7 +3,9 @@
 use crate::excess_days;
 use crate::kept::entries;
 use crate::reach::{excess_of, has_excess, unhedged, Kind, Met};
+use crate::reach_sets::has_some;
 use crate::reach_sides::*;
+use reference::cut::Steps;
 use reference::layout::*;
 use reference::quantities::{operating_totals, pricing_totals};
 use reference::refusal::cut_number;
@@ -37,9 +39,7 @@ const OF_LINES: &[OfLine] = &[
         let [pricing, operating] = excess_of(line);
         (0..SCHEDULES).any(|s| line.is_pulled(s) && pricing[s] + operating[s] > 0)
     }),
-    ("a set of schedules", |line| {
-        (EMPTY_SET + 1..FULL_SET).contains(&line.word(ACCREDITATION))
-    }),
+    ("a set of schedules", has_some),
     ("one bid alone", |line| {
         (1..SCHEDULES).all(|bid| line.is_pulled(bid))
     }),
@@ -85,8 +85,23 @@ impl Last<'_> {
         self.s > 0 && self.view.constrained_on[self.s - 1] > self.constrained_on()
     }
 
+    /// The price is below the cutter's.
     fn is_capped(&self) -> bool {
-        self.view.price[self.s] == self.market.caps[self.s]
+        let step = Steps::new(self.line).last().unwrap();
+        self.view.price[self.s] < step.prices[self.s]
+    }
+
+    /// Some but not all of the excess of schedule 5 is delivered.
+    fn delivers_part(&self) -> bool {
+        (1..self.last_operating()).contains(&self.actual())
+    }
+
+    /// Schedule 5 has an excess, and an actual that is more than scheduled there is what `is_met` asks for.
+    fn over_delivers(&self, is_met: fn(u32) -> bool) -> bool {
+        let scheduled = |i| self.line.word(operating_place(SCHEDULES - 1, i));
+        let actual = |i| self.line.word(actual_place(i));
+        let is_over = |i| actual(i) > scheduled(i) && is_met(actual(i));
+        self.last_operating() > 0 && (0..SCHEDULES).any(is_over)
     }
 }
 
@@ -97,14 +112,26 @@ const OF_LAST_STEPS: &[OfLast] = &[
     ("all of the excess delivered", |l| {
         l.actual() > 1 && l.actual() == l.last_operating()
     }),
-    ("a part of the excess delivered", |l| {
-        (1..l.last_operating()).contains(&l.actual())
-    }),
+    ("a part of the excess delivered", |l| l.delivers_part()),
     ("1,000 in the effective actual", |l| {
         l.actual() == EXCESS_LIMIT
     }),
     ("nothing of the excess delivered", |l| {
         l.actual() == 0 && l.last_operating() > 0 && l.view.agino[4] == 0
+    }),
+    ("more than scheduled delivered", |l| {
+        l.over_delivers(|actual| actual < QUANTITY_LIMIT)
+    }),
+    ("more than scheduled delivered, up to the limit", |l| {
+        l.over_delivers(|actual| actual == QUANTITY_LIMIT)
+    }),
+    ("a part of the excess delivered, elsewhere more", |l| {
+        l.delivers_part() && l.over_delivers(|_| true)
+    }),
+    ("excess in both totals and the actual, all different", |l| {
+        let excess = &l.view.excess;
+        let three = [excess.pricing[l.s], excess.operating[l.s], excess.actual];
+        BTreeSet::from(three).len() == 3 && !three.contains(&0)
     }),
     ("AGINO beside an excess", |l| {
         l.last_operating() > 0 && l.view.agino[4] > 0
@@ -134,7 +161,7 @@ const OF_LAST_STEPS: &[OfLast] = &[
         l.exceeds() && l.line.is_pulled(l.s) && l.view.finals[l.s] > 0
     }),
     ("a paid rise in a schedule of the set", |l| {
-        l.exceeds() && l.line.word(ACCREDITATION) > EMPTY_SET && l.view.finals[l.s] > 0
+        l.exceeds() && has_some(l.line) && l.view.finals[l.s] > 0
     }),
     ("a paid rise with clawback off", |l| {
         l.exceeds() && !l.market.clawback && l.view.finals[l.s] > 0
@@ -245,27 +272,28 @@ fn kept_lines_reach() {
     check_kept_lines::<WithExcess>();
 }
 
-/// Kinds of total and schedules of the lines refused with 12 in which one total alone is what `is_met` asks for, and no
-/// other is above M.
-fn alone(lines: &[Vec<u8>], is_met: fn(u64, u64) -> bool) -> usize {
+/// Of how many sides, kinds of total and schedules there is a line with this number in which one total is what `is_met`
+/// asks for, given M, and no other is above M.
+fn alone(lines: &[Vec<u8>], number: u32, is_met: impl Fn(u64, u64) -> bool) -> usize {
     let mut met = BTreeSet::new();
-    for line in lines.iter().filter(|line| cut_number(line) == 12) {
+    for line in lines.iter().filter(|line| cut_number(line) == number) {
         let line = Line::new(line).unwrap();
         let most = u64::from(line.greatest_break());
         let totals = [pricing_totals(line), operating_totals(line)];
         let totals = totals.as_flattened().iter().enumerate();
         let above: Vec<_> = totals.filter(|(_, &total)| total > most).collect();
         if let [(place, &total)] = above[..] {
+            let place = (line.side() as u32, place);
             met.extend(Some(place).filter(|_| is_met(total, most)));
         }
     }
     met.len()
 }
 
-/// Of each kind and schedule a total of M + 1,001 alone, also with M at the quantity limit, and one that is small in 32
-/// bits.
+/// Of each side, kind and schedule a total alone on both sides of refusal 12's limit and one that is small in 32 bits,
+/// with M as 3,000 and at the quantity limit.
 #[test]
-fn kept_refusals_reach() {
+fn kept_limits_reach() {
     let of_days = |program| -> Vec<Vec<u8>> {
         let days = entries(program)
             .into_iter()
@@ -274,9 +302,14 @@ fn kept_refusals_reach() {
     };
     let packs = ["check_settle", "check_steps", "check_day_numbers"].map(of_days);
     for lines in packs.iter().chain([&entries("check_cut")]) {
-        assert_eq!(alone(lines, |total, most| total == most + 1001), 10);
-        assert_eq!(alone(lines, |total, _| total == 200_001_001), 10);
-        let is_small = |total: u64, most| total >= 1 << 32 && total % (1 << 32) <= most;
-        assert_eq!(alone(lines, is_small), 10);
+        for wanted in [3_000, 200_000_000] {
+            for (above, number) in [(1, 0), (999, 0), (1000, 0), (1001, 12)] {
+                let is_met = |total, most| most == wanted && total == most + above;
+                assert_eq!(alone(lines, number, is_met), 20, "{wanted} + {above}");
+            }
+            let is_small = |total, most| total >= 1 << 32 && total % (1 << 32) <= most;
+            let is_met = |total, most| most == wanted && is_small(total, most);
+            assert_eq!(alone(lines, 12, is_met), 20, "{wanted} and 32 bits");
+        }
     }
 }

@@ -3,6 +3,7 @@
 use crate::kept::entries;
 use crate::pulled_days;
 use crate::reach::{unhedged, Kind, Met};
+use crate::reach_sets::has_some;
 use crate::reach_sides::*;
 use reference::layout::*;
 use reference::matching::pair;
@@ -103,10 +104,6 @@ impl Step<'_> {
         let (price, market) = (self.view.price[self.s], self.market.prices[self.s]);
         self.line.side().rate(price, market)
     }
-
-    fn has_set(&self) -> bool {
-        self.line.word(ACCREDITATION) > EMPTY_SET
-    }
 }
 
 type OfStep = (&'static str, fn(&Step) -> bool);
@@ -144,10 +141,10 @@ const OF_STEPS: &[OfStep] = &[
     }),
     ("a paid rise", |step| step.view.finals[step.s] > 0),
     ("a fall charged in a schedule of the set", |step| {
-        step.has_set() && step.is_charged()
+        has_some(step.line) && step.is_charged()
     }),
     ("a fall in a schedule that the set leaves out", |step| {
-        step.has_set() && step.falls() && step.rate() > 0 && !step.line.accredited(step.s)
+        has_some(step.line) && step.falls() && step.rate() > 0 && !step.line.accredited(step.s)
     }),
 ];
 

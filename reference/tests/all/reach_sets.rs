@@ -30,7 +30,7 @@ const OWN_BASE: [&str; 2] = [
 ];
 
 /// A line's set is neither empty nor full.
-fn has_some(line: Line) -> bool {
+pub fn has_some(line: Line) -> bool {
     (EMPTY_SET + 1..FULL_SET).contains(&line.word(ACCREDITATION))
 }
 

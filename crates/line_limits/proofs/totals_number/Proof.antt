@@ -11,10 +11,10 @@ use Rattle.line_limits.proofs.totals_number.Statement.{statement}
 use Rattle.line_limits.proofs.totals_number.Tie as tie
 
 abbrev Inv-loop : tie.InvT-loop
-Inv-loop most pricing operating s₀ s = (s ≤ 5) × (first (totalsFault most pricing operating) s ≡ 0)
+Inv-loop limit pricing operating s₀ s = (s ≤ 5) × (first (totalsFault limit pricing operating) s ≡ 0)
 
 abbrev μ-loop : tie.MeasureT-loop
-μ-loop most pricing operating s₀ s = 5 - s
+μ-loop limit pricing operating s₀ s = 5 - s
 
 loop-holds : tie.Need-loop-holds Inv-loop μ-loop
 loop-holds c = fold-begins _ _ _ refl

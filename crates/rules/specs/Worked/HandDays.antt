@@ -1,5 +1,5 @@
 -- The days that docs/RULES.md works out by hand for document 02's requests: one lemma, computed on the definitions. It comes before the days of
--- the third implementation: it costs less, and a wrong definition of a request is mostly refused here.
+-- the third implementation, so that a wrong definition that it refuses does not wait for those.
 use mathlib.Core.Path.{_≡_, refl}
 use mathlib.Core.List.{List, [], _∷_, _++_}
 use mathlib.Core.Bool.{true}
