@@ -1,9 +1,9 @@
 -- What no step takes is never constrained on and never paid: a step's figures, and a day's payments, are those of the quantities within M.
-use Prim.Native.Nat.{ℕ, zero, suc, _≤_, _<_, min}
+use Prim.Native.Nat.{ℕ, _≤_, _<_, min}
 use native.Mathlib.Omega.{arith}
-use mathlib.Core.Path.{_≡_, sym, _∙_, ap}
+use mathlib.Core.Path.{_≡_, ap}
 use mathlib.Core.List.{List}
-use mathlib.Core.Bool.{Bool, false, cond, not}
+use mathlib.Core.Bool.{false, cond, not}
 use lib.Dec.{eqb}
 use lib.IntN.{ℤ, pos}
 use Rattle.rules.specs.Fold.{sumTo, sumZ, someTo, eqbZ, five, at}
@@ -18,7 +18,7 @@ use Rattle.rules.specs.Totals.{linePayment}
 use Rattle.rules.specs.Viewing.{figuresOf, viewOf}
 use Rattle.rules.specs.declared.Step.{Step}
 use Rattle.laws.specs.Accepted.{AcceptedDay, accepted-line-at}
-use Rattle.laws.specs.Folds.{sum-same, some-none, some-suc, at-five}
+use Rattle.laws.specs.Folds.{sum-same, some-same, at-five}
 use Rattle.numbers.specs.Fives.{five-same}
 use Rattle.day_totals.specs.Sums.{sumZ-same}
 use Rattle.step_inputs.specs.Ends.{upper-most}
@@ -117,11 +117,6 @@ module _ (x : Step) (h : x .upper ≤ x .most) where
         five-same (modified (withinBid x)) (modified x) (λ s l. modified-same s),
         excess-none,
       )
-
--- searches over equal tests
-some-same : (n : ℕ) (p q : ℕ → Bool) → ((i : ℕ) → i < n → p i ≡ q i) → someTo n p ≡ someTo n q
-some-same zero p q h = some-none p ∙ sym (some-none q)
-some-same (suc n) p q h = rw (some-suc n p, some-suc n q, some-same n p q (λ i l. h i (omega arith)), h n (omega arith))
 
 -- a day's steps
 module _ (d : List ℕ) (a : AcceptedDay d) where

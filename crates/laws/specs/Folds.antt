@@ -190,6 +190,10 @@ pub some-suc : (n : ℕ) (p : ℕ → Bool) → someTo (suc n) p ≡ someTo n p 
 unfolding someTo
 some-suc n p = refl
 
+pub some-same : (n : ℕ) (p q : ℕ → Bool) → ((i : ℕ) → i < n → p i ≡ q i) → someTo n p ≡ someTo n q
+some-same zero p q h = some-none p ∙ sym (some-none q)
+some-same (suc n) p q h = rw (some-suc n p, some-suc n q, some-same n p q (λ i l. h i (omega arith)), h n (omega arith))
+
 -- lists one after another
 pub joined-none : (f : ℕ → List ℕ) → joined 0 f ≡ []
 unfolding joined
