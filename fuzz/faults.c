@@ -11,18 +11,6 @@ View real_mewikofu_view(const uint8_t *, size_t, size_t, size_t);
 uint32_t real_mewikofu_line_part(const uint8_t *, size_t, size_t, size_t *, size_t *);
 Cut real_mewikofu_cut(const uint8_t *, size_t);
 
-/* A copy of the bytes with each line from `at` on changed; none of longer bytes than a day's. */
-static inline const uint8_t *with_lines(const uint8_t *bytes, size_t length, size_t at, void (*change)(uint8_t *line))
-{
-    static _Thread_local uint8_t copy[MEWIKOFU_DAY_BYTES(MEWIKOFU_MOST_LINES)];
-    if (length > sizeof copy)
-        return bytes;
-    memcpy(copy, bytes, length);
-    for (; at + MEWIKOFU_LINE_BYTES <= length; at += MEWIKOFU_LINE_BYTES)
-        change(copy + at);
-    return copy;
-}
-
 static inline uint32_t word_at(const uint8_t *at)
 {
     uint32_t word;
@@ -33,6 +21,58 @@ static inline uint32_t word_at(const uint8_t *at)
 static inline void put_word(uint8_t *at, uint32_t word)
 {
     memcpy(at, &word, sizeof word);
+}
+
+/* The layout with ad hoc records: a header two words longer, then market table, lines and records. */
+#define OLD_MARKET_AT 16
+#define OLD_LINES_AT 64
+#define MORE_HEADER 8
+#define RECORD_COUNT 16
+#define RECORD_BYTES 32
+#define MOST_RECORDS 64
+#define MOST_DAY (OLD_LINES_AT + MORE_HEADER + MEWIKOFU_LINE_BYTES * MEWIKOFU_MOST_LINES + RECORD_BYTES * MOST_RECORDS)
+
+/* Refusals of ad hoc records. */
+#define RECORDS_MANY 19
+#define RECORDS_EQUAL 21
+
+static inline int has_records(const uint8_t *day, size_t length)
+{
+    return length >= OLD_LINES_AT && word_at(day + 4) != OLD_MARKET_AT;
+}
+
+static inline size_t lines_at(const uint8_t *day, size_t length)
+{
+    return has_records(day, length) ? OLD_LINES_AT + MORE_HEADER : OLD_LINES_AT;
+}
+
+/* A copy of the bytes; none of longer bytes than an accepted day's. */
+static inline uint8_t *copy_of(const uint8_t *bytes, size_t length)
+{
+    static _Thread_local uint8_t copy[MOST_DAY];
+    return length > sizeof copy ? NULL : memcpy(copy, bytes, length);
+}
+
+/* A copy of a line with a change. */
+static inline const uint8_t *with_line(const uint8_t *line, size_t length, void (*change)(uint8_t *line))
+{
+    uint8_t *copy = copy_of(line, length);
+    if (copy == NULL || length < MEWIKOFU_LINE_BYTES)
+        return line;
+    change(copy);
+    return copy;
+}
+
+/* A copy of a day with each of its lines changed. */
+static inline const uint8_t *with_lines(const uint8_t *day, size_t length, void (*change)(uint8_t *line))
+{
+    uint8_t *copy = copy_of(day, length);
+    if (copy == NULL || length < OLD_LINES_AT)
+        return day;
+    size_t at = lines_at(day, length);
+    for (size_t k = 0; k < word_at(day) && at + MEWIKOFU_LINE_BYTES <= length; k++, at += MEWIKOFU_LINE_BYTES)
+        change(copy + at);
+    return copy;
 }
 
 static inline void set_as_1(uint8_t *line)
@@ -65,6 +105,56 @@ static inline void bid_before(uint8_t *line)
     for (size_t s = 1; s < MEWIKOFU_SCHEDULES; s++)
         if (is_pulled(line, s))
             memcpy(line + BID_AT(s), line + BID_AT(s - 1), BID_BYTES);
+}
+
+/* A record's words. */
+#define RECORD_SCHEDULE 4
+#define RECORD_ORDER 8
+#define RECORD_ROW 12
+#define ROW_BYTES 20
+
+/* A copy of an accepted day with each record changed, given its place in the file and the row of the line that it is for. */
+static inline const uint8_t *with_records(const uint8_t *day, size_t length, void (*change)(uint8_t *record, uint32_t place, const uint8_t *own))
+{
+    uint8_t *copy = copy_of(day, length);
+    if (copy == NULL || !has_records(day, length))
+        return day;
+    size_t at = lines_at(day, length) + MEWIKOFU_LINE_BYTES * (size_t)word_at(day);
+    for (uint32_t place = 0; at + RECORD_BYTES <= length; place++, at += RECORD_BYTES) {
+        const uint8_t *line = copy + lines_at(day, length) + MEWIKOFU_LINE_BYTES * (size_t)word_at(copy + at);
+        change(copy + at, place, line + OPERATING_AT(word_at(copy + at + RECORD_SCHEDULE) - 1, 0));
+    }
+    return copy;
+}
+
+static inline void order_by_place(uint8_t *record, uint32_t place, const uint8_t *own)
+{
+    (void)own;
+    put_word(record + RECORD_ORDER, place);
+}
+
+static inline void order_reversed(uint8_t *record, uint32_t place, const uint8_t *own)
+{
+    (void)place, (void)own;
+    put_word(record + RECORD_ORDER, ~word_at(record + RECORD_ORDER));
+}
+
+static inline void order_with_sign(uint8_t *record, uint32_t place, const uint8_t *own)
+{
+    (void)place, (void)own;
+    put_word(record + RECORD_ORDER, word_at(record + RECORD_ORDER) ^ 1u << 31);
+}
+
+static inline void own_row(uint8_t *record, uint32_t place, const uint8_t *own)
+{
+    (void)place;
+    memcpy(record + RECORD_ROW, own, ROW_BYTES);
+}
+
+static inline void own_last_row(uint8_t *record, uint32_t place, const uint8_t *own)
+{
+    if (word_at(record + RECORD_SCHEDULE) == MEWIKOFU_SCHEDULES)
+        own_row(record, place, own);
 }
 
 /* M, of a line whose bids have no fault. */
@@ -121,16 +211,69 @@ static inline void rows_in_32_bits(uint8_t *line)
     }
 }
 
+/* Whether some record's row, in force or not, has a total above M + 1,000. */
+static inline int has_row_above(const uint8_t *day, size_t length)
+{
+    if (!has_records(day, length))
+        return 0;
+    const uint8_t *lines = day + lines_at(day, length);
+    for (const uint8_t *record = lines + MEWIKOFU_LINE_BYTES * (size_t)word_at(day); record < day + length; record += RECORD_BYTES) {
+        uint64_t sum = 0;
+        for (size_t i = 0; i < MEWIKOFU_SCHEDULES; i++)
+            sum += word_at(record + RECORD_ROW + 4 * i);
+        if (sum > greatest_break(lines + MEWIKOFU_LINE_BYTES * (size_t)word_at(record)) + 1000)
+            return 1;
+    }
+    return 0;
+}
+
+/* The number of a day lent with no book: that of its fault, or 15. */
+static inline uint32_t number_of(const uint8_t *day, size_t length)
+{
+    uint8_t none[1];
+    return real_mewikofu_settle(day, length, none, 0);
+}
+
+/* Faults in how settling reads ad hoc records. */
+static inline const uint8_t *misread_records(const uint8_t *day, size_t length)
+{
+    uint32_t number = number_of(day, length);
+    if (FAULT == 39 && number == RECORDS_EQUAL)
+        return with_records(day, length, order_by_place); /* equal records are accepted */
+    if (FAULT == 40 && has_records(day, length) && number == MEWIKOFU_LAYOUT && word_at(day + RECORD_COUNT) >> 27 != 0) {
+        uint8_t *copy = copy_of(day, length); /* the length is summed in 32 bits */
+        if (copy == NULL)
+            return day;
+        put_word(copy + RECORD_COUNT, word_at(day + RECORD_COUNT) & ((1u << 27) - 1));
+        return copy;
+    }
+    if (number != MEWIKOFU_BOOK_SHORT)
+        return day;
+    if (FAULT == 32)
+        return with_records(day, length, order_by_place); /* the last record in the file is in force */
+    if (FAULT == 33)
+        return with_records(day, length, order_reversed); /* the lowest order number is in force */
+    if (FAULT == 34)
+        return with_records(day, length, order_with_sign); /* order numbers are compared with a sign */
+    if (FAULT == 38)
+        return with_records(day, length, own_row); /* records are left out */
+    return day;
+}
+
 uint32_t mewikofu_settle(const uint8_t *day, size_t length, uint8_t *book, size_t room)
 {
     if (FAULT == 15)
-        day = with_lines(day, length, MEWIKOFU_LINES_AT, set_as_1); /* a set of schedules is taken for all of them */
+        day = with_lines(day, length, set_as_1); /* a set of schedules is taken for all of them */
     if (FAULT == 18)
-        day = with_lines(day, length, MEWIKOFU_LINES_AT, bid_before); /* a pulled bid is taken for the one before it */
+        day = with_lines(day, length, bid_before); /* a pulled bid is taken for the one before it */
     if (FAULT == 22)
-        day = with_lines(day, length, MEWIKOFU_LINES_AT, one_more); /* a total of M + 1,000 is refused */
+        day = with_lines(day, length, one_more); /* a total of M + 1,000 is refused */
     if (FAULT == 23)
-        day = with_lines(day, length, MEWIKOFU_LINES_AT, rows_in_32_bits); /* operating totals are summed in 32 bits */
+        day = with_lines(day, length, rows_in_32_bits); /* operating totals are summed in 32 bits */
+    if (FAULT >= 32)
+        day = misread_records(day, length);
+    if (FAULT == 37 && number_of(day, length) == MEWIKOFU_BOOK_SHORT && has_row_above(day, length))
+        return MEWIKOFU_TOTALS; /* rows that aren't in force are checked */
     uint32_t number = real_mewikofu_settle(day, length, book, room);
     if (FAULT == 3 && number == MEWIKOFU_BOOK_SHORT && room > 95)
         book[95] ^= 1; /* a refused book is written to */
@@ -178,9 +321,9 @@ View mewikofu_view(const uint8_t *day, size_t length, size_t line, size_t step)
     if (FAULT == 10)
         step = (uint32_t)step; /* a step above 2^32 is taken for a lower one */
     if (FAULT == 16)
-        day = with_lines(day, length, MEWIKOFU_LINES_AT, set_as_1); /* a set of schedules is taken for all of them */
+        day = with_lines(day, length, set_as_1); /* a set of schedules is taken for all of them */
     if (FAULT == 19)
-        day = with_lines(day, length, MEWIKOFU_LINES_AT, bid_before); /* a pulled bid is taken for the one before it */
+        day = with_lines(day, length, bid_before); /* a pulled bid is taken for the one before it */
     View view = real_mewikofu_view(day, length, line, step);
     if (FAULT == 6 && view.number != MEWIKOFU_ACCEPTED)
         view.flag[4] = 1; /* a refused view has a flag */
@@ -190,6 +333,10 @@ View mewikofu_view(const uint8_t *day, size_t length, size_t line, size_t step)
         view.excess.actual = 1; /* a refused view has an excess */
     if (FAULT >= 24 && FAULT <= 28 && view.number == MEWIKOFU_ACCEPTED)
         change_excess(&view, real_mewikofu_view(day, length, line, step + 1).number == MEWIKOFU_NO_STEP);
+    if (FAULT == 35 && view.number == MEWIKOFU_ACCEPTED) {
+        View other = real_mewikofu_view(with_records(day, length, own_last_row), length, line, step);
+        view.actual = other.number == MEWIKOFU_ACCEPTED ? other.actual : view.actual; /* by the line's own row 5 */
+    }
     return view;
 }
 
@@ -200,15 +347,22 @@ uint32_t mewikofu_line_part(const uint8_t *day, size_t length, size_t k, size_t 
     uint32_t number = real_mewikofu_line_part(day, length, k, at, part_length);
     if (FAULT == 13 && number == MEWIKOFU_ACCEPTED)
         *at += 4; /* the part begins one word late */
+    if (FAULT == 36 && number == MEWIKOFU_ACCEPTED && has_records(day, length))
+        *at -= MORE_HEADER; /* the part begins where it did in the old layout */
+    if (FAULT == 41 && number == RECORDS_MANY && k < word_at(day)) {
+        *at = lines_at(day, length) + MEWIKOFU_LINE_BYTES * k; /* 19 isn't checked */
+        *part_length = MEWIKOFU_LINE_BYTES;
+        return MEWIKOFU_ACCEPTED;
+    }
     return number;
 }
 
 Cut mewikofu_cut(const uint8_t *line, size_t length)
 {
     if (FAULT == 17)
-        line = with_lines(line, length, 0, low_bits); /* an accreditation above 63 is taken for a lower one */
+        line = with_line(line, length, low_bits); /* an accreditation above 63 is taken for a lower one */
     if (FAULT == 30)
-        line = with_lines(line, length, 0, one_less); /* a total of M + 1,001 is accepted */
+        line = with_line(line, length, one_less); /* a total of M + 1,001 is accepted */
     Cut cut = real_mewikofu_cut(line, length);
     if (FAULT == 7 && cut.number != MEWIKOFU_ACCEPTED)
         cut.missing[4] = 1; /* a refused cut has a flag set */

@@ -14,7 +14,7 @@
 
    Threads and signals. The functions have no writable data, take no memory from the heap and call nothing but memcpy and memset. So any number of threads may
    call them at once without a lock, each with places of its own to be written; the bytes that are read may be shared. They may be called from a signal handler.
-   A call takes less than 20 KB of stack: settling a day of 64 lines takes 15,752 bytes. tools/archive-check holds the archives to this. */
+   A call takes less than 20 KB of stack: settling 64 lines and 64 ad hoc records takes 15,848 bytes. tools/archive-check holds the archives to this. */
 #ifndef MEWIKOFU_H
 #define MEWIKOFU_H
 
@@ -37,28 +37,31 @@ extern "C" {
 const char *mewikofu_version(void);
 
 /* Numbers. A refusal is the first fault met in the order of document 01's table, "Where each refusal is checked" (docs/RULES.md says document 01, the
-   scope, in our words). Beside each are its place, which the functions below name, and its condition; n is the day's line count, M the greatest break
-   of a line's bids. */
+   scope, in our words). Beside each are its place, which the functions below name, and its condition; n is the day's line count, c its count of ad hoc
+   records, M the greatest break of a line's bids. */
 #define MEWIKOFU_ACCEPTED 0
 /* tools/refusals writes from here, from docs/REFUSALS.md. */
-#define MEWIKOFU_FILE_SHORT 1            /* header: fewer than 64 bytes */
-#define MEWIKOFU_LINE_COUNT 2            /* header: n = 0 or n > 64 */
-#define MEWIKOFU_LAYOUT 3                /* header: words 2 to 4 aren't 16, 64, 64 + 660 n, or the file isn't 64 + 660 n bytes */
-#define MEWIKOFU_MARKET_PRICE 4          /* market: a market price or APC > 10,000,000 */
-#define MEWIKOFU_MARKET_MARK 5           /* market: a cap mark or the clawback switch > 1 */
-#define MEWIKOFU_SIDE_OR_ACCREDITATION 6 /* each line: side > 1, or accreditation 2 to 31 or > 63 */
-#define MEWIKOFU_BID_COUNT 7             /* each line: a bid's count = 0 in schedule 1, or > 11 */
-#define MEWIKOFU_BREAKS 8                /* each line: a bid's break <= the one before (first: <= 0), or > 200,000,000 */
-#define MEWIKOFU_PRICES 9                /* each line: a bid's price > 10,000,000, or < the one before (withdrawal: > the one before) */
-#define MEWIKOFU_UNUSED_SLOT 10          /* each line: a break or price past the bid's count isn't 0 */
-#define MEWIKOFU_HEDGE 11                /* each line: hedge > M (withdrawal: > 0) */
-#define MEWIKOFU_TOTALS 12               /* each line: a schedule's pricing or operating total > M + 1,000 */
-#define MEWIKOFU_ACTUALS 13              /* each line: an interval's actual > 200,000,000 */
-#define MEWIKOFU_EQUAL_KEYS 14           /* all lines: participant, point and side are those of an earlier line */
-#define MEWIKOFU_BOOK_SHORT 15           /* book: fewer than 96 + 56 n bytes lent */
-#define MEWIKOFU_NO_LINE 16              /* view, line part: line >= n */
-#define MEWIKOFU_NO_STEP 17              /* view: step >= the line's step count */
-#define MEWIKOFU_LINE_LENGTH 18          /* cutter: other than 660 bytes */
+#define MEWIKOFU_FILE_SHORT 1               /* header: fewer than 64 bytes */
+#define MEWIKOFU_LINE_COUNT 2               /* header: n = 0 or n > 64 */
+#define MEWIKOFU_LAYOUT 3                   /* header: the header isn't n, 16, 64, L (L = 64 + 660 n), nor n, 24, 72, L, c, 72 + 660 n (L = 72 + 660 n + 32 c), or the file isn't L bytes */
+#define MEWIKOFU_MARKET_PRICE 4             /* market: a market price or APC > 10,000,000 */
+#define MEWIKOFU_MARKET_MARK 5              /* market: a cap mark or the clawback switch > 1 */
+#define MEWIKOFU_SIDE_OR_ACCREDITATION 6    /* each line: side > 1, or accreditation 2 to 31 or > 63 */
+#define MEWIKOFU_BID_COUNT 7                /* each line: a bid's count = 0 in schedule 1, or > 11 */
+#define MEWIKOFU_BREAKS 8                   /* each line: a bid's break <= the one before (first: <= 0), or > 200,000,000 */
+#define MEWIKOFU_PRICES 9                   /* each line: a bid's price > 10,000,000, or < the one before (withdrawal: > the one before) */
+#define MEWIKOFU_UNUSED_SLOT 10             /* each line: a break or price past the bid's count isn't 0 */
+#define MEWIKOFU_HEDGE 11                   /* each line: hedge > M (withdrawal: > 0) */
+#define MEWIKOFU_TOTALS 12                  /* each line: a schedule's pricing total, or the total of its operating row in force, > M + 1,000 */
+#define MEWIKOFU_ACTUALS 13                 /* each line: an interval's actual > 200,000,000 */
+#define MEWIKOFU_EQUAL_KEYS 14              /* all lines: participant, point and side are those of an earlier line */
+#define MEWIKOFU_BOOK_SHORT 15              /* book: fewer than 96 + 56 n bytes lent */
+#define MEWIKOFU_NO_LINE 16                 /* view, line part: line >= n */
+#define MEWIKOFU_NO_STEP 17                 /* view: step >= the line's step count */
+#define MEWIKOFU_LINE_LENGTH 18             /* cutter: other than 660 bytes */
+#define MEWIKOFU_AD_HOC_COUNT 19            /* header: c > 64 */
+#define MEWIKOFU_AD_HOC_LINE_OR_SCHEDULE 20 /* ad hoc records: a record's line >= n, or its schedule = 0 or > 5 */
+#define MEWIKOFU_EQUAL_AD_HOC 21            /* ad hoc records: line, schedule and order number are those of an earlier record */
 
 /* What a number says. It is of this header alone and needs no archive. */
 static inline const char *mewikofu_words(uint32_t number)
@@ -67,7 +70,7 @@ static inline const char *mewikofu_words(uint32_t number)
         "accepted",
         "the file is under 64 bytes",
         "the line count is 0 or above 64",
-        "the header's offsets or length, or the file's length, aren't those of its line count",
+        "the header's offsets or length, or the file's length, aren't those of its counts of lines and ad hoc records",
         "a market price or the administered price cap is above 10,000,000 price units",
         "a cap mark or the clawback switch is above 1",
         "a line's side is above 1, or its accreditation is 2 to 31 or above 63",
@@ -83,6 +86,9 @@ static inline const char *mewikofu_words(uint32_t number)
         "the day has no such line",
         "the line has no such step",
         "the line isn't 660 bytes",
+        "the count of ad hoc records is above 64",
+        "an ad hoc record names a line that the day doesn't have, or a schedule other than 1 to 5",
+        "two ad hoc records have the same line, schedule and order number",
     };
     return number < sizeof words / sizeof words[0] ? words[number] : "an unknown number";
 }
@@ -97,13 +103,33 @@ static inline const char *mewikofu_words(uint32_t number)
 /* The most MJ by which a pricing or operating total may be above M. */
 #define MEWIKOFU_MOST_EXCESS 1000
 
-/* The day file: 32-bit unsigned little-endian words. Offsets in bytes. */
+/* The day file: 32-bit unsigned little-endian words. Offsets in bytes. There are two layouts; the header's second word, the market offset, says which.
+
+   Without ad hoc records: header n, MEWIKOFU_MARKET_AT, MEWIKOFU_LINES_AT, MEWIKOFU_DAY_BYTES(n); market table; n lines. */
 #define MEWIKOFU_MARKET_AT 16
 #define MEWIKOFU_LINES_AT 64
 #define MEWIKOFU_LINE_BYTES 660
 #define MEWIKOFU_DAY_BYTES(n) (MEWIKOFU_LINES_AT + MEWIKOFU_LINE_BYTES * (size_t)(n))
 #define MEWIKOFU_LINE_AT(k) (MEWIKOFU_LINES_AT + MEWIKOFU_LINE_BYTES * (size_t)(k))
 #define MEWIKOFU_ACCREDITATION 12 /* within a line */
+
+/* With ad hoc records: header n, MEWIKOFU_AD_HOC_MARKET_AT, MEWIKOFU_AD_HOC_LINES_AT, MEWIKOFU_AD_HOC_DAY_BYTES(n, c), c, MEWIKOFU_AD_HOC_AT(n, 0); market
+   table; n lines; c records, of which there may be none. mewikofu_line_part says where a line stands in either layout.
+
+   A record is eight words: line from 0; schedule from 1; order number; five quantities in MJ, for the five intervals. Its row stands for the line's own
+   operating row of that schedule. Of the records for a line and a schedule the one with the highest order number (any word, unsigned) is in force, wherever it
+   stands; the others, and the line's own row, are then not looked at. */
+#define MEWIKOFU_MOST_AD_HOC 64
+#define MEWIKOFU_AD_HOC_MARKET_AT 24
+#define MEWIKOFU_AD_HOC_LINES_AT 72
+#define MEWIKOFU_AD_HOC_BYTES 32
+#define MEWIKOFU_AD_HOC_LINE_AT(k) (MEWIKOFU_AD_HOC_LINES_AT + MEWIKOFU_LINE_BYTES * (size_t)(k))
+#define MEWIKOFU_AD_HOC_AT(n, j) (MEWIKOFU_AD_HOC_LINE_AT(n) + MEWIKOFU_AD_HOC_BYTES * (size_t)(j)) /* record j from 0 of a day of n lines */
+#define MEWIKOFU_AD_HOC_DAY_BYTES(n, c) MEWIKOFU_AD_HOC_AT(n, c)
+#define MEWIKOFU_AD_HOC_LINE 0 /* within a record */
+#define MEWIKOFU_AD_HOC_SCHEDULE 4
+#define MEWIKOFU_AD_HOC_ORDER 8
+#define MEWIKOFU_AD_HOC_QUANTITY(i) (12 + 4 * (size_t)(i)) /* of interval i from 0 */
 
 /* A line's accreditation word: in no schedule, in all, or in a set of schedules, bit s for schedule s from 0 (document 02 counts from 1 and has bit s - 1).
    MEWIKOFU_ACCREDITED_IN(1 << 0 | 1 << 2) is the word for the first and the third. The empty set is settled as 0, the full one as 1. All other words are
@@ -142,8 +168,8 @@ static inline int mewikofu_accredited(uint32_t word, size_t s)
 /* The place of m(r, s) with r below s (both from 0) among the view's matches. */
 #define MEWIKOFU_MATCH_AT(r, s) ((s) * ((s) - 1) / 2 + (r))
 
-/* Settles a day, the `length` bytes at `day`, into the book lent, `room` bytes at `book`. Answers the number; header, market, each line, all lines
-   and book (room under MEWIKOFU_BOOK_BYTES(n)) are checked, in this order. With 0 the book's bytes are written and those beyond are unchanged;
+/* Settles a day, the `length` bytes at `day`, into the book lent, `room` bytes at `book`. Answers the number; header, market, ad hoc records, each line, all
+   lines and book (room under MEWIKOFU_BOOK_BYTES(n)) are checked, in this order. With 0 the book's bytes are written and those beyond are unchanged;
    with any other number every lent byte is as it was. */
 uint32_t mewikofu_settle(const uint8_t *day, size_t length, uint8_t *book, size_t room);
 
@@ -169,7 +195,7 @@ struct mewikofu_view {
     uint32_t actual;                          /* A, effective actual */
     uint32_t price[MEWIKOFU_SCHEDULES];       /* capped */
     uint32_t flag[MEWIKOFU_SCHEDULES];        /* 1 where the bid has no price for the step, or was pulled */
-    uint32_t operating[MEWIKOFU_SCHEDULES];   /* O */
+    uint32_t operating[MEWIKOFU_SCHEDULES];   /* O, of the row in force */
     uint32_t pricing[MEWIKOFU_SCHEDULES];     /* E */
     uint32_t agino[MEWIKOFU_SCHEDULES];       /* AGINO */
     uint32_t msiq[MEWIKOFU_SCHEDULES];        /* MSIQ */
@@ -178,11 +204,11 @@ struct mewikofu_view {
     struct mewikofu_excess excess;            /* of the line */
 };
 
-/* The step view: step `step` of line `line` (both from 0). Header, market, each line, all lines and view are checked, in this order. */
+/* The step view: step `step` of line `line` (both from 0). Header, market, ad hoc records, each line, all lines and view are checked, in this order. */
 struct mewikofu_view mewikofu_view(const uint8_t *day, size_t length, size_t line, size_t step);
 
-/* The bytes of line k (from 0) within the day's own: they are the `part_length` bytes from byte `at` of the day on. Answers the number; header and
-   line part are checked, in this order. Where it isn't 0 both places are 0 and the part is empty. */
+/* The bytes of line k (from 0) within the day's own, with the line's own operating rows: they are the `part_length` bytes from byte `at` of the day on, in
+   either layout. Answers the number; header and line part are checked, in this order. Where it isn't 0 both places are 0 and the part is empty. */
 uint32_t mewikofu_line_part(const uint8_t *day, size_t length, size_t k, size_t *at, size_t *part_length);
 
 /* What the cutter answers: a line's steps. Places past the count are 0. In a schedule whose bid was pulled (its count is 0) every step is flagged and has the
@@ -198,7 +224,8 @@ struct mewikofu_cut {
     uint32_t reserved;                                        /* always 0 */
 };
 
-/* The cutter, of libcutter_c.a. Cuts one line of a day file, the `length` bytes at `line`. Cutter and each line are checked, in this order. */
+/* The cutter, of libcutter_c.a. Cuts one line of a day file, the `length` bytes at `line`. Cutter and each line are checked, in this order. It is given no ad
+   hoc record and reads the line's own operating rows, so it may refuse with MEWIKOFU_TOTALS a line of a day that is accepted. */
 struct mewikofu_cut mewikofu_cut(const uint8_t *line, size_t length);
 
 /* The archives were compiled for these sizes. */

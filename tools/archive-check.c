@@ -1,6 +1,6 @@
-/* Stack that each function takes on a day of 64 lines, made of the lines of the day file named on the command line: each is called on a stack of its own,
-   painted before, and how far the paint is gone is counted, less what a call of nothing takes. Ends with 1 where one takes 20,000 bytes or more, or
-   refuses. */
+/* Stack that each function takes on a day of 64 lines and 64 ad hoc records, made of the lines of the day file named on the command line, which has no records:
+   each is called on a stack of its own, painted before, and how far the paint is gone is counted, less what a call of nothing takes. Ends with 1 where one takes
+   20,000 bytes or more, or refuses. */
 #include "mewikofu.h"
 
 #include <stdio.h>
@@ -10,7 +10,8 @@
 enum { LIMIT = 20000 };
 static uint8_t space[400000];
 static ucontext_t here, there;
-static uint8_t day[MEWIKOFU_DAY_BYTES(MEWIKOFU_MOST_LINES)], book[MEWIKOFU_BOOK_BYTES(MEWIKOFU_MOST_LINES)];
+static uint8_t read[MEWIKOFU_DAY_BYTES(MEWIKOFU_MOST_LINES)];
+static uint8_t day[MEWIKOFU_AD_HOC_DAY_BYTES(MEWIKOFU_MOST_LINES, MEWIKOFU_MOST_AD_HOC)], book[MEWIKOFU_BOOK_BYTES(MEWIKOFU_MOST_LINES)];
 static size_t length;
 static uint32_t number;
 
@@ -51,7 +52,7 @@ static void line_part(void)
 
 static void cut(void)
 {
-    struct mewikofu_cut answer = mewikofu_cut(day + MEWIKOFU_LINE_AT(63), MEWIKOFU_LINE_BYTES);
+    struct mewikofu_cut answer = mewikofu_cut(day + MEWIKOFU_AD_HOC_LINE_AT(63), MEWIKOFU_LINE_BYTES);
     number = answer.number;
 }
 
@@ -61,17 +62,30 @@ static void put_word(size_t at, uint32_t value)
         day[at + k] = (uint8_t)(value >> 8 * k);
 }
 
-/* The day of n lines as one of 64: its lines over and over, each with a participant of its own. */
+/* The ad hoc record of line k, with the line's own operating row of some schedule. */
+static void put_record(size_t k)
+{
+    size_t at = MEWIKOFU_AD_HOC_AT(MEWIKOFU_MOST_LINES, k), s = k % MEWIKOFU_SCHEDULES;
+    put_word(at + MEWIKOFU_AD_HOC_LINE, (uint32_t)k);
+    put_word(at + MEWIKOFU_AD_HOC_SCHEDULE, (uint32_t)s + 1);
+    put_word(at + MEWIKOFU_AD_HOC_ORDER, (uint32_t)k);
+    memcpy(day + at + MEWIKOFU_AD_HOC_QUANTITY(0), day + MEWIKOFU_AD_HOC_LINE_AT(k) + 540 + 20 * s, 20);
+}
+
+/* The day of n lines as one of 64: its lines over and over, each with a participant and an ad hoc record of its own. */
 static void lengthen(size_t n)
 {
+    memcpy(day + MEWIKOFU_AD_HOC_MARKET_AT, read + MEWIKOFU_MARKET_AT, MEWIKOFU_LINES_AT - MEWIKOFU_MARKET_AT);
     for (size_t k = 0; k < MEWIKOFU_MOST_LINES; k++) {
-        if (k >= n)
-            memcpy(day + MEWIKOFU_LINE_AT(k), day + MEWIKOFU_LINE_AT(k - n), MEWIKOFU_LINE_BYTES);
-        put_word(MEWIKOFU_LINE_AT(k), (uint32_t)k);
+        memcpy(day + MEWIKOFU_AD_HOC_LINE_AT(k), read + MEWIKOFU_LINE_AT(k % n), MEWIKOFU_LINE_BYTES);
+        put_word(MEWIKOFU_AD_HOC_LINE_AT(k), (uint32_t)k);
+        put_record(k);
     }
-    length = MEWIKOFU_DAY_BYTES(MEWIKOFU_MOST_LINES);
-    put_word(0, MEWIKOFU_MOST_LINES);
-    put_word(12, (uint32_t)length);
+    length = sizeof day;
+    const size_t header[] = {MEWIKOFU_MOST_LINES, MEWIKOFU_AD_HOC_MARKET_AT, MEWIKOFU_AD_HOC_LINES_AT, length, MEWIKOFU_MOST_AD_HOC,
+                             MEWIKOFU_AD_HOC_AT(MEWIKOFU_MOST_LINES, 0)};
+    for (size_t k = 0; k < sizeof header / sizeof header[0]; k++)
+        put_word(4 * k, (uint32_t)header[k]);
 }
 
 int main(int argc, char **argv)
@@ -80,11 +94,11 @@ int main(int argc, char **argv)
         { "mewikofu_settle", settle }, { "mewikofu_view", view }, { "mewikofu_line_part", line_part }, { "mewikofu_cut", cut },
     };
     FILE *file = argc == 2 ? fopen(argv[1], "rb") : NULL;
-    if (file == NULL || fread(day, 1, sizeof day, file) < MEWIKOFU_DAY_BYTES(1) || fclose(file) != 0) {
+    if (file == NULL || fread(read, 1, sizeof read, file) < MEWIKOFU_DAY_BYTES(1) || fclose(file) != 0) {
         fprintf(stderr, "usage: archive-check DAY, a day file that can be read\n");
         return 2;
     }
-    lengthen(day[0]);
+    lengthen(read[0]);
     int failed = 0;
     size_t least = stack_of(nothing);
     for (size_t k = 0; k < sizeof calls / sizeof calls[0]; k++) {

@@ -1,7 +1,7 @@
 //! Settling of whole days: the proved one beside the reference's.
 
 use crate::{beside, day_table, proved};
-use reference::generate::{line_with_steps, valid_day};
+use reference::generate::{line_with_steps, valid_day, with_rows_in_force};
 use reference::layout::MOST_STEPS;
 use reference::refusal::day_number;
 use std::hint::black_box;
@@ -51,6 +51,15 @@ pub fn days(lines: u32, clawback: u32) -> Vec<Vec<u8>> {
         .collect()
 }
 
+/// The same days in the layout with ad hoc records, of which each has so many: the rows in force are those of the old ones.
+pub fn ad_hoc_days(lines: u32, clawback: u32, records: usize) -> Vec<Vec<u8>> {
+    let old = days(lines, clawback);
+    let of_seed = |(seed, day): (usize, &Vec<u8>)| with_rows_in_force(day, records, seed as u64);
+    let days: Vec<Vec<u8>> = old.iter().enumerate().map(of_seed).collect();
+    assert!(days.iter().all(|day| day_number(day) == 0));
+    days
+}
+
 pub fn pass(settler: Settler, days: &[Vec<u8>]) {
     let mut book = [0; BOOK];
     for day in days {
@@ -82,11 +91,28 @@ pub fn times() {
     });
 }
 
+/// Days with ad hoc records have the answers of those without, and the settlers answer alike.
+#[test]
+fn ad_hoc_days_agree() {
+    for clawback in [0, 1] {
+        let [old, ad_hoc] = [days(64, clawback), ad_hoc_days(64, clawback, 64)];
+        compare(&ad_hoc);
+        for (old, day) in old.iter().zip(&ad_hoc) {
+            let [expected, book] = [old, day].map(|day| {
+                let mut book = [0; BOOK];
+                proved::settle(day, &mut book);
+                book
+            });
+            assert!(book == expected);
+        }
+    }
+}
+
 /// Settling needs little stack: a thread that has 32 KB settles the longest days.
 #[test]
 fn little_stack() {
     for clawback in [0, 1] {
-        let days = days(64, clawback);
+        let days = [days(64, clawback), ad_hoc_days(64, clawback, 64)].concat();
         let settle = move || {
             let mut book = vec![0; BOOK];
             days.iter().all(|day| proved::settle(day, &mut book) == 0)

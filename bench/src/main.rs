@@ -16,6 +16,7 @@ use std::time::Instant;
 const USAGE: &str = "usage: bench                                    times
        bench pass CUTTER SIDE STEPS TIMES      cuts the lines of a kind so many times over, for a count of instructions
        bench settle SETTLER LINES CLAWBACK TIMES  settles the days of a kind so many times over, likewise
+       bench ad-hoc SETTLER LINES CLAWBACK TIMES  the same with 64 ad hoc records in each day
 CUTTER: proved, reference, sorted, checked (the reference's refusals alone); SIDE: INJ, WDR; SETTLER: proved, reference; CLAWBACK: 0, 1";
 
 /// Cuts lines one after another.
@@ -63,7 +64,7 @@ fn main() -> ExitCode {
             println!();
             views::times();
         }
-        ["settle", settler, lines, clawback, times] => {
+        [kind @ ("settle" | "ad-hoc"), settler, lines, clawback, times] => {
             let settler = days::SETTLERS.iter().find(|(name, _)| *name == settler);
             let (Some((_, settler)), Ok(lines), Ok(clawback), Ok(times)) =
                 (settler, lines.parse(), clawback.parse(), times.parse())
@@ -71,7 +72,10 @@ fn main() -> ExitCode {
                 eprintln!("{USAGE}");
                 return ExitCode::from(2);
             };
-            let days = days::days(lines, clawback);
+            let days = match kind {
+                "settle" => days::days(lines, clawback),
+                _ => days::ad_hoc_days(lines, clawback, 64),
+            };
             (0..times).for_each(|_| days::pass(*settler, &days));
         }
         ["pass", cutter, side, steps, times] => {

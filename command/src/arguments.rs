@@ -58,12 +58,13 @@ and one: what no step takes of its pricing totals, its operating totals and its 
 const CUT: &str = "\
 Cuts a line's bids at every break and at the hedge, as the proved program `cut` does: each step's \
 upper end and its five uncapped prices, then for each schedule the word of missing-price flags and \
-how many are set.";
+how many are set. The cutter reads the line's own operating rows and no ad hoc record, so it may \
+refuse, with 12, a line of a day that is accepted.";
 
 const CHECK: &str = "\
 Says of each day `accepted`, with each total above the greatest break of its line's bids, or the \
-refusal: its number, which is the proved code's, and in words the line, bid, slot, value and limit, \
-which are the command's own finding.";
+refusal: its number, which is the proved code's, and in words the line, bid, slot or ad hoc record, \
+value and limit, which are the command's own finding.";
 
 const EXPLAIN: &str = "\
 Says in sentences why each payment of a day is what it is: the step's ends and prices, its \
@@ -74,7 +75,7 @@ arithmetic between them is worked out again and compared.";
 
 const SHOW: &str = "\
 Prints day files as text, from which `make` makes the same bytes. The table (--csv) has one row \
-for each line of a day.";
+for each line of a day, then one for each ad hoc record.";
 
 const MAKE: &str = "\
 Makes the day file that a text says, also one that settling refuses: then the refusal is said and \
@@ -85,8 +86,8 @@ Prints book files, which `settle --books` writes: totals, adjusted totals and ea
 
 const DRAW: &str = "\
 Draws a day as one page of HTML, which needs nothing but the file: a table of all lines' payments; \
-of the chosen line its steps' rises and falls as bars with what was paid or charged, and its \
-prices beside market price and cap. On the page another line can be chosen.";
+of the chosen line the ad hoc rows in force, its steps' rises and falls as bars with what was paid \
+or charged, and its prices beside market price and cap. On the page another line can be chosen.";
 
 const UNITS: &str = "\
 Prices in whole units of $0.0001 per GJ and money in whole units of $0.0000001, as JSON always has \

@@ -2,7 +2,7 @@
 
 use crate::amounts::money;
 use crate::arguments::Options;
-use crate::input::read_day;
+use crate::input::read_part;
 use crate::layout::*;
 use crate::outcome::{each, Problem, Result, Status};
 use crate::output::{put_json, Format, Table, Unit};
@@ -40,7 +40,7 @@ pub fn run(options: &Options, out: &mut dyn Write) -> Result<Status> {
 
 /// A file that holds a book.
 fn read_book(file: &std::ffi::OsStr) -> Result<(String, Vec<u8>)> {
-    let input = read_day(file)?;
+    let input = read_part(file)?;
     match lines_of_book(&input.bytes) {
         Ok(_) => Ok((input.name, input.bytes)),
         Err(why) => Err(Problem::refused(format!("{}: {why}", input.name))),

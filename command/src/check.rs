@@ -92,8 +92,8 @@ fn limited(mut explained: Explained, all: bool) -> Explained {
     explained
 }
 
-const COLUMNS: [&str; 9] = [
-    "file", "refused", "line", "schedule", "slot", "interval", "value", "limit", "why",
+const COLUMNS: [&str; 10] = [
+    "file", "refused", "line", "schedule", "slot", "interval", "value", "limit", "why", "record",
 ];
 
 fn put_table(table: &mut Table, name: &str, answer: &Option<Explained>, all: bool) -> Result<()> {
@@ -108,6 +108,7 @@ fn put_table(table: &mut Table, name: &str, answer: &Option<Explained>, all: boo
         let Fault {
             number,
             line,
+            record,
             schedule,
             slot,
             interval,
@@ -125,18 +126,19 @@ fn put_table(table: &mut Table, name: &str, answer: &Option<Explained>, all: boo
             value.to_string(),
             limit.map_or(String::new(), |limit| limit.to_string()),
             words.clone(),
+            place(*record),
         ])
     })
 }
 
-/// Lines count from 0, schedules, slots and intervals from 1; what doesn't apply is null.
+/// Lines and ad hoc records count from 0, schedules, slots and intervals from 1; what doesn't apply is null.
 pub fn refused_json(name: &str, explained: &Explained) -> Value {
     let faults: Vec<Value> = explained
         .faults
         .iter()
         .map(|fault| {
-            let Fault { number, line, schedule, slot, interval, value, limit, words } = fault;
-            json!({ "number": number, "line": line, "schedule": schedule, "slot": slot, "interval": interval, "value": value, "limit": limit, "words": words })
+            let Fault { number, line, record, schedule, slot, interval, value, limit, words } = fault;
+            json!({ "number": number, "line": line, "schedule": schedule, "slot": slot, "interval": interval, "value": value, "limit": limit, "words": words, "record": record })
         })
         .collect();
     json!({ "file": name, "refused": explained.refusal.number(), "words": explained.refusal.words(), "faults": faults })

@@ -1,15 +1,16 @@
 //! `cut`: the steps of one line, given as its 660 bytes or as a line of a day.
 
+use crate::ad_hoc::{self, InForce};
 use crate::arguments::Options;
 use crate::figures::refused;
-use crate::input::{read_day, Input};
-use crate::layout::{word, SCHEDULES};
+use crate::input::{read_day, read_part, Input};
+use crate::layout::{word, Layout, SCHEDULES};
 use crate::outcome::{each, Problem, Result, Status};
 use crate::output::{numbered, put_json, Format, Table, Unit};
 use crate::refusals::explain_line;
 use crate::settle::put;
 use crate::values::counted;
-use mewikofu::Cut;
+use mewikofu::{Cut, Refusal};
 use serde_json::{json, Value};
 use std::ffi::OsStr;
 use std::io::Write;
@@ -52,28 +53,50 @@ pub fn run(options: &Options, out: &mut dyn Write) -> Result<Status> {
 type Answer = std::result::Result<Cut, (u32, Problem)>;
 
 fn cut(file: &OsStr, line: Option<usize>) -> Result<(String, Answer)> {
-    let mut input = read_day(file)?;
-    if let Some(k) = line {
-        let part = match mewikofu::line_part(&input.bytes, k) {
-            Ok(part) => part.to_vec(),
-            Err(mewikofu::Refusal::NoLine) => return Err(no_line(&input, k)),
-            Err(refusal) => return Err(refused(&input, refusal)),
-        };
-        input = Input {
-            name: format!("{} line {k}", input.name),
-            bytes: part,
-            more: false,
-            ..input
-        };
-    }
+    let (input, rows) = match line {
+        Some(k) => line_of_day(file, k)?,
+        None => (read_part(file)?, [None; SCHEDULES]),
+    };
     let answer = mewikofu::cut(&input.bytes).map_err(|refusal| {
         let problem = match explain_line(&input, refusal) {
-            Ok(explained) => Problem::refused(format!("{}: {}", input.name, explained.first())),
+            Ok(explained) => {
+                let (name, first, own) = (&input.name, explained.first(), own_rows(refusal, &rows));
+                Problem::refused(format!("{name}: {first}{own}"))
+            }
             Err(problem) => problem,
         };
         (refusal.number(), problem)
     });
     Ok((input.name, answer))
+}
+
+/// The bytes of a day's line, with its own operating rows, and the rows of ad hoc records that are in force in the day.
+fn line_of_day(file: &OsStr, k: usize) -> Result<(Input, InForce)> {
+    let input = read_day(file)?;
+    let part = match mewikofu::line_part(&input.bytes, k) {
+        Ok(part) => part.to_vec(),
+        Err(Refusal::NoLine) => return Err(no_line(&input, k)),
+        Err(refusal) => return Err(refused(&input, refusal)),
+    };
+    let records = ad_hoc::records(&input.bytes, &Layout::named(&input.bytes));
+    let rows = ad_hoc::in_force(&records, &part, k);
+    let line = Input {
+        name: format!("{} line {k}", input.name),
+        bytes: part,
+        more: false,
+        ..input
+    };
+    Ok((line, rows))
+}
+
+/// That the day may be accepted although the cutter refuses the line's own rows.
+fn own_rows(refusal: Refusal, rows: &InForce) -> String {
+    match (refusal, ad_hoc::schedules(rows)) {
+        (Refusal::Totals, schedules) if !schedules.is_empty() => format!(
+            "; the cutter reads the line's own rows, and in the day those of ad hoc records are in force in {schedules}"
+        ),
+        _ => String::new(),
+    }
 }
 
 /// Refusal 16 in words.

@@ -1,8 +1,9 @@
 //! A line's excess in words: what its totals and its effective actual have above the greatest break of its bids (document 02, F-2).
 
+use crate::ad_hoc;
 use crate::amounts::grouped;
 use crate::figures::{Line, Totals};
-use crate::layout::{word, BySchedule, SCHEDULES};
+use crate::layout::{BySchedule, Layout, SCHEDULES};
 use crate::lists::joined;
 use mewikofu::{Excess, Refusal};
 
@@ -52,12 +53,15 @@ pub fn sentence(line: &Line, write: impl Fn(u32) -> String) -> String {
 pub fn of_day(day: &[u8]) -> Result<Vec<(usize, String)>, Refusal> {
     let write = |value: u32| format!("{} MJ", grouped(value.into()));
     let mut found = Vec::new();
-    for k in 0..word(day, 0) as usize {
+    let layout = Layout::named(day);
+    let records = ad_hoc::records(day, &layout);
+    for k in 0..layout.lines {
         let part = mewikofu::line_part(day, k)?;
-        let most = mewikofu::cut(part)?.ends().last().copied().unwrap_or(0);
+        let line = ad_hoc::with_rows(part, &ad_hoc::in_force(&records, part, k));
+        let most = mewikofu::cut(&line)?.ends().last().copied().unwrap_or(0);
         let Totals {
             pricing, operating, ..
-        } = Totals::new(part);
+        } = Totals::new(&line);
         // A view works on the whole day, so only lines with a total above the greatest break are viewed.
         let mut totals = pricing.into_iter().chain(operating);
         if totals.any(|total| total > most.into()) {

@@ -1,5 +1,6 @@
 //! An accepted day's figures as the proved archive answers them: its book and the view of every step.
 
+use crate::ad_hoc::{self, InForce, Record};
 use crate::input::{read_day, Input};
 use crate::layout::*;
 use crate::outcome::{Problem, Result};
@@ -21,6 +22,10 @@ pub struct Line {
     pub entry: BookLine,
     pub accreditation: Accreditation,
     pub hedge: u32,
+    /// The operating rows of ad hoc records that are in force.
+    pub ad_hoc: InForce,
+    /// The line's bytes with the operating rows in force. The cutter takes them also where it refuses the line's own rows.
+    pub bytes: Vec<u8>,
     /// What the steps' O, E and A are allocated from.
     pub totals: Totals,
     pub steps: Vec<View>,
@@ -35,7 +40,7 @@ pub struct Totals {
 }
 
 impl Totals {
-    /// Words of a line have no limit of their own, so they are added up in 64 bits.
+    /// Of a line with the operating rows in force. Words have no limit of their own, so they are added up in 64 bits.
     pub fn new(line: &[u8]) -> Totals {
         let value = |place| u64::from(word(line, place));
         let each = |total: &dyn Fn(usize, usize) -> u64| {
@@ -115,17 +120,20 @@ pub fn refused(input: &Input, refusal: Refusal) -> Problem {
 impl Figures {
     pub fn new(day: &[u8]) -> std::result::Result<Figures, Refusal> {
         let book = mewikofu::settle(day)?;
+        let layout = Layout::named(day);
+        let table = layout.market(day);
         let market = Market {
-            prices: std::array::from_fn(|s| word(day, MARKET_PRICE + s)),
-            marks: std::array::from_fn(|s| word(day, CAP_MARK + s) == 1),
-            cap: word(day, PRICE_CAP),
-            clawback: word(day, CLAWBACK) == 1,
+            prices: std::array::from_fn(|s| word(table, MARKET_PRICE + s)),
+            marks: std::array::from_fn(|s| word(table, CAP_MARK + s) == 1),
+            cap: word(table, PRICE_CAP),
+            clawback: word(table, CLAWBACK) == 1,
         };
+        let records = ad_hoc::records(day, &layout);
         let entries: Vec<BookLine> = book.lines().collect();
         let lines: std::result::Result<_, Refusal> = entries
             .into_par_iter()
             .enumerate()
-            .map(|(k, entry)| line(day, k, entry))
+            .map(|(k, entry)| line(day, &records, k, entry))
             .collect();
         Ok(Figures {
             market,
@@ -135,8 +143,15 @@ impl Figures {
     }
 }
 
-fn line(day: &[u8], k: usize, entry: BookLine) -> std::result::Result<Line, Refusal> {
+fn line(
+    day: &[u8],
+    records: &[Record],
+    k: usize,
+    entry: BookLine,
+) -> std::result::Result<Line, Refusal> {
     let part = mewikofu::line_part(day, k)?;
+    let ad_hoc = ad_hoc::in_force(records, part, k);
+    let bytes = ad_hoc::with_rows(part, &ad_hoc);
     let steps: std::result::Result<_, Refusal> = (0..entry.steps as usize)
         .map(|j| mewikofu::view(day, k, j))
         .collect();
@@ -145,7 +160,9 @@ fn line(day: &[u8], k: usize, entry: BookLine) -> std::result::Result<Line, Refu
         // An accepted line has a proper word.
         accreditation: accreditation.ok_or(Refusal::SideOrAccreditation)?,
         hedge: word(part, HEDGE),
-        totals: Totals::new(part),
+        totals: Totals::new(&bytes),
+        ad_hoc,
+        bytes,
         entry,
         steps: steps?,
     })

@@ -3,12 +3,11 @@
 use crate::layout::*;
 use crate::output::Format;
 
-/// A text has at most so many lines, so that its file is within the bytes that the programs read.
+/// A text has at most so many lines, and so many ad hoc records: more than a day may have, so that the refusal can be tried.
 pub const MOST_TEXT_LINES: usize = 99;
+pub const MOST_TEXT_RECORDS: usize = 99;
 
-const HEADER_WORDS: usize = MARKET_OFFSET / 4;
-
-/// What stands for a bid without steps, which is a pulled one, and for a set without schedules.
+/// What stands for a bid without steps, which is a pulled one, for a set without schedules, and as the line of an ad hoc section for no record.
 pub const NONE: &str = "none";
 
 /// How a pulled bid is written, to stand after a message on the bid of a schedule, from 0; nothing where that can't be pulled.
@@ -25,6 +24,7 @@ pub enum Section {
     Header,
     Market,
     Line,
+    AdHoc,
 }
 
 /// How a key's values are written.
@@ -44,7 +44,7 @@ pub struct Field {
     pub name: &'static str,
     /// 1 to 5, for a key that has one row for each schedule.
     pub schedule: Option<usize>,
-    /// Word place of the first value: in the file, or for a line in that line.
+    /// Word place of the first value in the header, the market table, the line or the ad hoc record.
     pub place: usize,
     pub words: usize,
     pub kind: Kind,
@@ -52,13 +52,19 @@ pub struct Field {
 }
 
 impl Section {
-    pub const ALL: [Section; 3] = [Section::Header, Section::Market, Section::Line];
+    pub const ALL: [Section; 4] = [
+        Section::Header,
+        Section::Market,
+        Section::Line,
+        Section::AdHoc,
+    ];
 
     pub fn heading(self) -> &'static str {
         match self {
             Section::Header => "[header]",
             Section::Market => "[market]",
             Section::Line => "[line]",
+            Section::AdHoc => "[ad hoc]",
         }
     }
 
@@ -68,6 +74,16 @@ impl Section {
             Section::Header => header_fields(),
             Section::Market => market_fields(),
             Section::Line => line_fields(),
+            Section::AdHoc => ad_hoc_fields(),
+        }
+    }
+
+    /// How often the section may stand in a text.
+    pub fn most(self) -> usize {
+        match self {
+            Section::Header | Section::Market => 1,
+            Section::Line => MOST_TEXT_LINES,
+            Section::AdHoc => MOST_TEXT_RECORDS,
         }
     }
 }
@@ -113,10 +129,26 @@ fn rows(name: &'static str, kind: Kind, row: fn(usize) -> (usize, usize)) -> Vec
     (0..SCHEDULES).map(field).collect()
 }
 
+/// The last two are those of a header with ad hoc records.
 fn header_fields() -> Vec<Field> {
-    const NAMES: [&str; HEADER_WORDS] = ["lines", "market_offset", "lines_offset", "length"];
-    let field = |(place, name)| single(name, place, Kind::Number);
+    const NAMES: [&str; AD_HOC_MARKET_OFFSET / 4] = [
+        "lines",
+        "market_offset",
+        "lines_offset",
+        "length",
+        "records",
+        "records_offset",
+    ];
+    let field = |(place, name)| Field {
+        required: !is_ad_hoc_word(place),
+        ..single(name, place, Kind::Number)
+    };
     NAMES.into_iter().enumerate().map(field).collect()
+}
+
+/// Whether only a header with ad hoc records has a word at this place.
+pub const fn is_ad_hoc_word(place: usize) -> bool {
+    place >= MARKET_OFFSET / 4
 }
 
 fn market_fields() -> Vec<Field> {
@@ -148,6 +180,16 @@ fn line_fields() -> Vec<Field> {
         vec![actual],
     ]
     .concat()
+}
+
+fn ad_hoc_fields() -> Vec<Field> {
+    let quantities = row("operating", AD_HOC_QUANTITIES, SCHEDULES, Kind::Number);
+    vec![
+        single("line", AD_HOC_LINE, Kind::Number),
+        single("schedule", AD_HOC_SCHEDULE, Kind::Number),
+        single("order", AD_HOC_ORDER, Kind::Number),
+        quantities,
+    ]
 }
 
 /// A bid's count where it isn't that of the bid's steps. These come after the bids, which write the count too.

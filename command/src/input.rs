@@ -1,14 +1,17 @@
 //! Reading: file names or `-` for standard input, never more bytes than the command has use for.
 
+use crate::layout::word;
 use crate::outcome::{Problem, Result};
 use std::ffi::OsStr;
 use std::fs::File;
 use std::io::{self, Read};
 use std::path::{Path, PathBuf};
 
-/// The proved programs read so many bytes of a day or a line. The longest day has 42,304, so a longer file's number is that of its first
-/// 65,536 bytes (docs/DECISIONS.md, 6).
+/// Of a line, a book and most days so many bytes are read at most. The longest accepted day has 44,360.
 pub const MOST_DAY: usize = 65_536;
+
+/// Bytes of the header's words up to the length.
+const LENGTH_END: usize = 16;
 
 /// No text of a day is longer.
 const MOST_TEXT: usize = 16 << 20;
@@ -20,18 +23,27 @@ pub struct Input {
     /// None for standard input.
     pub path: Option<PathBuf>,
     pub bytes: Vec<u8>,
-    /// Whether the file has more bytes than were read.
+    /// Whether the file was longer than is read of such a file. Its bytes are then one more than that, so that they are no file of the greatest length.
     pub more: bool,
 }
 
-/// A day, a line or a book.
+/// A day. A header may bear out a length above `MOST_DAY`, as one with more than 64 ad hoc records does, so it is read up to there: where the file is
+/// longer, its length isn't the header's, and that of the bytes isn't either.
 pub fn read_day(name: &OsStr) -> Result<Input> {
-    read(name, MOST_DAY)
+    read(name, |first| match first.len() < LENGTH_END {
+        true => MOST_DAY,
+        false => MOST_DAY.max(word(first, 3) as usize),
+    })
+}
+
+/// A line or a book.
+pub fn read_part(name: &OsStr) -> Result<Input> {
+    read(name, |_| MOST_DAY)
 }
 
 /// A text; one that is longer than any day's isn't taken.
 pub fn read_text(name: &OsStr) -> Result<Input> {
-    let input = read(name, MOST_TEXT)?;
+    let input = read(name, |_| MOST_TEXT)?;
     match input.more {
         false => Ok(input),
         true => Err(Problem::failed(format!(
@@ -49,7 +61,8 @@ pub fn shown(name: &OsStr) -> String {
     }
 }
 
-fn read(name: &OsStr, most: usize) -> Result<Input> {
+/// `most` answers how many bytes there are use for, from the first ones of the file.
+fn read(name: &OsStr, most: fn(&[u8]) -> usize) -> Result<Input> {
     let path = (name != "-").then(|| PathBuf::from(name));
     let shown = shown(name);
     let read = match &path {
@@ -68,11 +81,15 @@ fn read(name: &OsStr, most: usize) -> Result<Input> {
     }
 }
 
-/// The first bytes, and whether there are more.
-fn read_up_to(from: impl Read, most: usize) -> io::Result<(Vec<u8>, bool)> {
+/// The first bytes and one more, and whether there is that one.
+fn read_up_to(mut from: impl Read, most: fn(&[u8]) -> usize) -> io::Result<(Vec<u8>, bool)> {
     let mut bytes = Vec::new();
-    from.take(most as u64 + 1).read_to_end(&mut bytes)?;
+    from.by_ref()
+        .take(LENGTH_END as u64)
+        .read_to_end(&mut bytes)?;
+    let most = most(&bytes);
+    let rest = most + 1 - bytes.len();
+    from.take(rest as u64).read_to_end(&mut bytes)?;
     let more = bytes.len() > most;
-    bytes.truncate(most);
     Ok((bytes, more))
 }

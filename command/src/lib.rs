@@ -1,6 +1,7 @@
 //! The command `mewikofu`, for settlement teams. Every figure comes from the proved archives by bindings/rust; this crate reads, writes and says them.
 
 pub mod accreditation;
+pub mod ad_hoc;
 pub mod amounts;
 pub mod arguments;
 pub mod book;

@@ -2,7 +2,7 @@
 
 use crate::arguments::Options;
 use crate::check;
-use crate::form::{read_schedules, Field, Section, MOST_TEXT_LINES};
+use crate::form::{is_ad_hoc_word, read_schedules, Field, Section, NONE};
 use crate::input::{read_text, Input};
 use crate::layout::*;
 use crate::many::{canonical, replace};
@@ -98,6 +98,8 @@ struct Block {
     line: usize,
     fields: Vec<Field>,
     entries: Vec<Entry>,
+    /// Whether this is `line = none`, which stands for no ad hoc record.
+    none: bool,
 }
 
 /// The day file that a text says.
@@ -137,27 +139,18 @@ fn read_blocks(text: &str) -> Parsed<Vec<Block>> {
     Ok(blocks)
 }
 
-/// Header and market stand once; lines aren't too many.
+/// Header and market stand once; lines and ad hoc records aren't too many.
 fn check_sections(blocks: &[Block], next: &Block) -> Parsed<()> {
-    let mut same = blocks.iter().filter(|block| block.section == next.section);
-    if next.section == Section::Line {
-        return match same.count() {
-            MOST_TEXT_LINES => fault(
-                next.line,
-                format!("more than {MOST_TEXT_LINES} [line] sections"),
-            ),
-            _ => Ok(()),
-        };
-    }
-    match same.next() {
-        Some(before) => {
-            let message = format!("{} is repeated; it", next.section.heading());
-            fault(
-                next.line,
-                format!("{message} stands in line {}", before.line),
-            )
+    let same = blocks.iter().filter(|block| block.section == next.section);
+    let same: Vec<&Block> = same.collect();
+    let (heading, most) = (next.section.heading(), next.section.most());
+    match same.first() {
+        Some(before) if most == 1 => {
+            let message = format!("{heading} is repeated; it stands in line {}", before.line);
+            fault(next.line, message)
         }
-        None => Ok(()),
+        _ if same.len() == most => fault(next.line, format!("more than {most} {heading} sections")),
+        _ => Ok(()),
     }
 }
 
@@ -170,6 +163,7 @@ impl Block {
                 line,
                 fields: section.fields(),
                 entries: Vec::new(),
+                none: false,
             }),
             None => {
                 let known = Section::ALL.map(Section::heading).join(", ");
@@ -184,6 +178,12 @@ impl Block {
             return fault(line, format!("'{row}' is not 'key = values'"));
         };
         let at_line = |message| Fault { line, message };
+        if self.section == Section::AdHoc && (key.trim(), values.trim()) == ("line", NONE) {
+            return match std::mem::replace(&mut self.none, true) {
+                false => Ok(()),
+                true => fault(line, "'line' is repeated".to_string()),
+            };
+        }
         for field in self.named(key).map_err(at_line)? {
             if let Some(before) = self.entries.iter().find(|entry| entry.field == field) {
                 let key = field.key();
@@ -222,12 +222,32 @@ impl Block {
 
     /// Every key that a section needs is there.
     fn check_complete(&self) -> Parsed<()> {
-        let given = |field: &Field| self.entries.iter().any(|entry| entry.field == *field);
+        if let (true, Some(entry)) = (self.none, self.entries.first()) {
+            let (heading, key) = (self.section.heading(), entry.field.key());
+            let message =
+                format!("'{key}' in an {heading} with 'line = {NONE}', which stands alone");
+            return fault(entry.line, message);
+        }
+        let given = |field: &Field| self.none || self.entries.iter().any(|e| e.field == *field);
         let mut missing = self.fields.iter().filter(|f| f.required && !given(f));
         match missing.next() {
             Some(field) => {
                 let message = format!("this {} has no '{}'", self.section.heading(), field.key());
                 fault(self.line, message)
+            }
+            None => Ok(()),
+        }
+    }
+
+    /// A header has only words of the layout.
+    fn check_words(&self, layout: &Layout) -> Parsed<()> {
+        let mut entries = self.entries.iter();
+        let none_there = layout.records.is_none();
+        match entries.find(|entry| none_there && is_ad_hoc_word(entry.field.place)) {
+            Some(Entry { field, line, .. }) => {
+                let (key, heading) = (field.key(), Section::AdHoc.heading());
+                let message = format!("'{key}' is a word of a file with ad hoc records, and the text has no {heading}");
+                fault(*line, message)
             }
             None => Ok(()),
         }
@@ -250,13 +270,32 @@ fn assemble(blocks: &[Block], last: usize) -> Parsed<Vec<u8>> {
     let Some(market) = of(Section::Market).next() else {
         return fault(last.max(1), "the text has no [market]".to_string());
     };
-    let lines = of(Section::Line).count();
-    let mut day = vec![0; day_length(lines)];
-    put_words(&mut day, &header(lines));
-    of(Section::Header).for_each(|block| block.put(&mut day));
-    market.put(&mut day);
+    let records = || of(Section::AdHoc).filter(|block| !block.none);
+    if let (Some(none), true) = (
+        of(Section::AdHoc).find(|b| b.none),
+        of(Section::AdHoc).count() > 1,
+    ) {
+        let heading = Section::AdHoc.heading();
+        let message = format!(
+            "'line = {NONE}' stands for no ad hoc record, and the text has another {heading}"
+        );
+        return fault(none.line, message);
+    }
+    let layout = Layout {
+        lines: of(Section::Line).count(),
+        records: of(Section::AdHoc).next().map(|_| records().count()),
+    };
+    let mut day = layout.empty_day();
+    for header in of(Section::Header) {
+        header.check_words(&layout)?;
+        header.put(&mut day);
+    }
+    market.put(&mut day[layout.market_at()..]);
     for (k, line) in of(Section::Line).enumerate() {
-        line.put(&mut day[day_length(k)..][..LINE_BYTES]);
+        line.put(&mut day[layout.line_at(k)..]);
+    }
+    for (j, record) in records().enumerate() {
+        record.put(&mut day[layout.record_at(j)..]);
     }
     Ok(day)
 }

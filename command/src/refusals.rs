@@ -1,6 +1,7 @@
 //! Refusals in words. The number is always the proved archive's; where the fault lies is this module's own finding, which is not proved: every fault of a file in
 //! the order of document 01's table, so that the first must have the archive's number. `explain` fails where it hasn't.
 
+use crate::ad_hoc::{self, InForce, Record, Row};
 use crate::amounts::{grouped, price};
 use crate::figures::Totals;
 use crate::input::Input;
@@ -16,6 +17,8 @@ pub struct Fault {
     pub number: u32,
     /// From 0.
     pub line: Option<usize>,
+    /// An ad hoc record, from 0.
+    pub record: Option<usize>,
     /// From 1, as slots and intervals.
     pub schedule: Option<usize>,
     pub slot: Option<usize>,
@@ -91,19 +94,31 @@ fn explain(name: &str, refusal: Refusal, faults: Vec<Fault>) -> Result<Explained
 /// Every fault of a day's bytes; `more` where the file goes on after them.
 pub fn day_faults(bytes: &[u8], more: bool) -> Vec<Fault> {
     let mut faults = Vec::new();
-    let Some(lines) = header_faults(bytes, more, &mut faults) else {
+    let Some(layout) = header_faults(bytes, more, &mut faults) else {
         return faults;
     };
-    market_faults(bytes, &mut faults);
+    market_faults(layout.market(bytes), &mut faults);
+    // Of a file that is too short the whole lines are looked at, and the records where all are there.
+    let records = match bytes.len() < layout.length() {
+        true => Vec::new(),
+        false => ad_hoc::records(bytes, &layout),
+    };
+    record_faults(&records, layout.lines, &mut faults);
+    let lines = layout
+        .lines
+        .min((bytes.len() - layout.line_at(0)) / LINE_BYTES);
     for k in 0..lines {
+        let own = layout.line(bytes, k);
+        let rows = ad_hoc::in_force(&records, own, k);
         LineFaults {
-            line: line_bytes(bytes, k),
+            line: &ad_hoc::with_rows(own, &rows),
             place: Some(k),
+            rows,
             faults: &mut faults,
         }
         .find();
     }
-    key_faults(bytes, lines, &mut faults);
+    key_faults(bytes, &layout, lines, &mut faults);
     faults
 }
 
@@ -123,6 +138,7 @@ pub fn cut_faults(bytes: &[u8], more: bool) -> Vec<Fault> {
     LineFaults {
         line: bytes,
         place: None,
+        rows: [None; SCHEDULES],
         faults: &mut faults,
     }
     .find();
@@ -130,9 +146,10 @@ pub fn cut_faults(bytes: &[u8], more: bool) -> Vec<Fault> {
 }
 
 fn size(bytes: &[u8], more: bool) -> String {
+    let length = bytes.len() as u64;
     match more {
-        true => format!("more than {} bytes", number(bytes.len() as u64)),
-        false => format!("{} bytes", number(bytes.len() as u64)),
+        true => format!("more than {} bytes", number(length - 1)),
+        false => format!("{} bytes", number(length)),
     }
 }
 
@@ -140,82 +157,143 @@ fn number(value: impl Into<u64>) -> String {
     grouped(value.into())
 }
 
-/// Refusals 1 to 3. Answers how many lines can be looked at, none where the header has no line count.
-fn header_faults(bytes: &[u8], more: bool, faults: &mut Vec<Fault>) -> Option<usize> {
-    let mut found = |number, value: u64, limit: u64, words| {
-        faults.push(Fault {
-            number,
-            value,
-            limit: Some(limit),
-            words,
-            ..Fault::default()
-        });
-    };
-    if bytes.len() < LINES_OFFSET {
-        found(
-            1,
-            bytes.len() as u64,
-            64,
-            format!(
-                "the file has {}; header and market table take 64",
-                size(bytes, more)
-            ),
+/// What the header's words are, in its order.
+const HEADER_NAMES: [&str; 6] = [
+    "line count",
+    "offset of the market table",
+    "offset of the lines",
+    "file length",
+    "count of ad hoc records",
+    "offset of the ad hoc records",
+];
+
+fn header_fault(number: u32, value: u64, limit: usize, words: String) -> Fault {
+    Fault {
+        number,
+        value,
+        limit: Some(limit as u64),
+        words,
+        ..Fault::default()
+    }
+}
+
+/// Refusals 1 to 3 and 19. Answers the layout that can be looked at; none where a count is above its limit, or no layout is named.
+fn header_faults(bytes: &[u8], more: bool, faults: &mut Vec<Fault>) -> Option<Layout> {
+    if bytes.len() < LEAST_BYTES {
+        let words = format!(
+            "the file has {}; header and market table take {LEAST_BYTES}",
+            size(bytes, more)
         );
+        faults.push(header_fault(1, bytes.len() as u64, LEAST_BYTES, words));
         return None;
     }
     let n = word(bytes, 0);
     if !(1..=MOST_LINES as u32).contains(&n) {
-        found(
-            2,
-            n.into(),
-            MOST_LINES as u64,
-            format!(
-                "the header's line count is {}; it must be 1 to 64",
-                number(n)
-            ),
-        );
+        let n_words = number(n);
+        let words = format!("the header's line count is {n_words}; it must be 1 to {MOST_LINES}");
+        faults.push(header_fault(2, n.into(), MOST_LINES, words));
         return None;
     }
-    let lines = n as usize;
-    let counted = counted(lines, "line");
-    let names = [
-        "line count",
-        "offset of the market table",
-        "offset of the lines",
-        "file length",
-    ];
-    for (place, due) in header(lines).into_iter().enumerate() {
+    let market = word(bytes, 1);
+    if ![MARKET_OFFSET, AD_HOC_MARKET_OFFSET].contains(&(market as usize)) {
+        let (name, market_words) = (HEADER_NAMES[1], number(market));
+        let words = format!("the header's {name} is {market_words}; it must be {MARKET_OFFSET}, or {AD_HOC_MARKET_OFFSET} in a file with ad hoc records");
+        faults.push(header_fault(3, market.into(), MARKET_OFFSET, words));
+        return None;
+    }
+    let layout = Layout::named(bytes);
+    layout_faults(bytes, more, &layout, faults);
+    let count = layout.record_count();
+    if count > MOST_AD_HOC {
+        let (name, count_words) = (HEADER_NAMES[4], number(count as u64));
+        let words = format!("the header's {name} is {count_words}; the most is {MOST_AD_HOC}");
+        faults.push(header_fault(19, count as u64, MOST_AD_HOC, words));
+        return None;
+    }
+    (bytes.len() >= layout.line_at(0)).then_some(layout)
+}
+
+/// Refusal 3: the words and the length that don't fit the header's counts.
+fn layout_faults(bytes: &[u8], more: bool, layout: &Layout, faults: &mut Vec<Fault>) {
+    let lines = counted(layout.lines, "line");
+    let counts = match layout.records {
+        None => lines,
+        Some(1) => format!("{lines} and 1 ad hoc record"),
+        Some(count) => format!("{lines} and {} ad hoc records", number(count as u64)),
+    };
+    for (place, due) in layout.header().into_iter().enumerate() {
         let value = word(bytes, place);
-        if value != due {
-            let (name, value_words, due_words) = (names[place], number(value), number(due));
-            found(
-                3,
-                value.into(),
-                due.into(),
-                format!(
-                    "the header's {name} is {value_words}; with {counted} it must be {due_words}"
-                ),
+        if u64::from(value) != due {
+            let (name, value_words, due_words) = (HEADER_NAMES[place], number(value), number(due));
+            let words = format!(
+                "the header's {name} is {value_words}; with {counts} it must be {due_words}"
             );
+            faults.push(header_fault(3, value.into(), due as usize, words));
         }
     }
-    let length = day_length(lines);
+    let length = layout.length();
     if bytes.len() != length {
         let (size, due) = (size(bytes, more), number(length as u64));
-        found(
-            3,
-            bytes.len() as u64,
-            length as u64,
-            format!("the file has {size}; with {counted} it must have {due}"),
-        );
+        let words = format!("the file has {size}; with {counts} it must have {due}");
+        faults.push(header_fault(3, bytes.len() as u64, length, words));
     }
-    Some(lines.min((bytes.len() - LINES_OFFSET) / LINE_BYTES))
+}
+
+/// Refusals 20 and 21.
+fn record_faults(records: &[Record], lines: usize, faults: &mut Vec<Fault>) {
+    for (j, record) in records.iter().enumerate() {
+        let mut wrong = |value: u32, limit: usize, words: String| {
+            let words = format!("{}: {words}", record_words(j, record));
+            faults.push(Fault {
+                number: 20,
+                record: Some(j),
+                value: value.into(),
+                limit: Some(limit as u64),
+                words,
+                ..Fault::default()
+            });
+        };
+        if record.line as usize >= lines {
+            let has = counted(lines, "line");
+            let words = format!("the day has no such line; it has {has}, counted from 0");
+            wrong(record.line, lines - 1, words);
+        }
+        if record.schedule_place().is_none() {
+            let words = format!("there is no such schedule; it must be 1 to {SCHEDULES}");
+            wrong(record.schedule, SCHEDULES, words);
+        }
+    }
+    for (j, record) in records.iter().enumerate() {
+        let key = |record: &Record| (record.line, record.schedule, record.order);
+        let mut before = records[..j].iter();
+        if let Some(earlier) = before.position(|other| key(other) == key(record)) {
+            faults.push(Fault {
+                number: 21,
+                record: Some(j),
+                value: earlier as u64,
+                words: format!("{}: record {earlier} has the same", record_words(j, record)),
+                ..Fault::default()
+            });
+        }
+    }
+}
+
+/// A record with what it names.
+fn record_words(j: usize, record: &Record) -> String {
+    let Record {
+        line,
+        schedule,
+        order,
+        ..
+    } = record;
+    format!("ad hoc record {j} (line {line}, schedule {schedule}, order number {order})")
 }
 
 /// Refusals 4 and 5.
-fn market_faults(bytes: &[u8], faults: &mut Vec<Fault>) {
+fn market_faults(market: &[u8], faults: &mut Vec<Fault>) {
     let mut above =
         |refusal, place, limit: u32, schedule: Option<usize>, words: &dyn Fn(u32) -> String| {
-            let value = word(bytes, place);
+            let value = word(market, place);
             if value > limit {
                 let (value, limit, words) =
                     (u64::from(value), Some(u64::from(limit)), words(value));
@@ -275,9 +353,12 @@ fn quantity_limit_words() -> String {
 
 /// Refusals 6 to 13 of one line.
 struct LineFaults<'a> {
+    /// With the operating rows in force.
     line: &'a [u8],
     /// From 0; none for a line without a day.
     place: Option<usize>,
+    /// Those of the rows that are of ad hoc records.
+    rows: InForce,
     faults: &'a mut Vec<Fault>,
 }
 
@@ -559,17 +640,20 @@ impl LineFaults<'_> {
         for (name, totals) in [("pricing", pricing), ("operating", operating)] {
             for (s, total) in totals.into_iter().enumerate() {
                 if total > limit {
+                    let row = self.rows[s].filter(|_| name == "operating");
                     let fault = Fault {
                         number: 12,
+                        record: row.map(|row| row.place),
                         schedule: Some(s + 1),
                         value: total,
                         limit: Some(limit),
                         ..Fault::default()
                     };
+                    let row = row.map_or(String::new(), row_words);
                     let words = self.total_words(most, total);
                     self.put(
                         fault,
-                        format!("{name} total of schedule {}: {words}", s + 1),
+                        format!("{name} total of schedule {}{row}: {words}", s + 1),
                     );
                 }
             }
@@ -612,14 +696,20 @@ impl LineFaults<'_> {
     }
 }
 
+/// Which record a row in force is of.
+fn row_words(row: Row) -> String {
+    let Row { place, order, .. } = row;
+    format!(", whose row is that of ad hoc record {place} (order number {order})")
+}
+
 fn slot_words(bid: usize, slot: usize) -> String {
     format!("bid of schedule {}, slot {}", bid + 1, slot + 1)
 }
 
 /// Refusal 14.
-fn key_faults(bytes: &[u8], lines: usize, faults: &mut Vec<Fault>) {
+fn key_faults(bytes: &[u8], layout: &Layout, lines: usize, faults: &mut Vec<Fault>) {
     let keys: Vec<[u32; 3]> = (0..lines)
-        .map(|k| [PARTICIPANT, POINT, SIDE].map(|place| word(line_bytes(bytes, k), place)))
+        .map(|k| [PARTICIPANT, POINT, SIDE].map(|place| word(layout.line(bytes, k), place)))
         .collect();
     for (k, key) in keys.iter().enumerate() {
         if let Some(earlier) = keys[..k].iter().position(|other| other == key) {

@@ -1,5 +1,6 @@
 //! `steps`: every figure of every step, as the proved program prints it, as a table or as JSON.
 
+use crate::ad_hoc::InForce;
 use crate::arguments::Options;
 use crate::figures::{Figures, Line};
 use crate::input::read_day;
@@ -144,7 +145,15 @@ fn columns(unit: Unit) -> Vec<String> {
     columns
         .extend(["initial", "revised", "modified", "final"].map(|name| format!("{name}_{unit}")));
     columns.extend(EXCESS_COLUMNS.map(String::from));
+    columns.push(AD_HOC_COLUMN.to_string());
     columns
+}
+
+/// The order number of the ad hoc record whose operating row is in force for the line in the schedule; empty where that is the line's own.
+pub const AD_HOC_COLUMN: &str = "ad_hoc_order";
+
+pub fn ad_hoc_cell(line: &Line, s: usize) -> String {
+    line.ad_hoc[s].map_or(String::new(), |row| row.order.to_string())
 }
 
 /// The line's excess in a table with a row for each step and schedule.
@@ -160,7 +169,8 @@ pub fn excess_cells(step: &View, s: usize) -> [String; 3] {
 }
 
 fn put_table(table: &mut Table, name: &str, figures: &Figures, unit: Unit) -> Result<()> {
-    for (k, Line { entry, steps, .. }) in figures.lines.iter().enumerate() {
+    for (k, line) in figures.lines.iter().enumerate() {
+        let Line { entry, steps, .. } = line;
         let key = [
             entry.participant.to_string(),
             entry.point.to_string(),
@@ -187,6 +197,7 @@ fn put_table(table: &mut Table, name: &str, figures: &Figures, unit: Unit) -> Re
                 }));
                 row.extend(payments(step, s).map(|value| unit.money(value)));
                 row.extend(excess_cells(step, s));
+                row.push(ad_hoc_cell(line, s));
                 table.row(&row)?;
             }
         }
@@ -208,7 +219,17 @@ fn line_json(line: &Line) -> Value {
         "side": side_word(line.entry.side),
         "steps": steps,
         "excess": excess_json(line.excess()),
+        "ad_hoc": ad_hoc_json(&line.ad_hoc),
     })
+}
+
+/// The operating rows in force that are of ad hoc records, each with the line's own.
+fn ad_hoc_json(rows: &InForce) -> Vec<Value> {
+    let rows = rows.iter().enumerate().filter_map(|(s, row)| {
+        let row = (*row)?;
+        Some(json!({ "schedule": s + 1, "order": row.order, "operating": row.quantities, "own": row.own }))
+    });
+    rows.collect()
 }
 
 fn excess_json(excess: Excess) -> Value {

@@ -4,9 +4,14 @@
 
 #include <inttypes.h>
 #include <stdio.h>
+#include <stdlib.h>
 
-/* One byte more than the longest day: a file that fills it is refused as it would be whole, since no day is so long. */
-static uint8_t day[MEWIKOFU_DAY_BYTES(MEWIKOFU_MOST_LINES) + 1];
+/* The longest accepted day has MEWIKOFU_AD_HOC_DAY_BYTES(64, 64) bytes. A longer file is read whole too: which number it is refused with depends on its length. */
+struct day {
+    uint8_t *bytes;
+    size_t length;
+};
+
 static uint8_t book[MEWIKOFU_BOOK_BYTES(MEWIKOFU_MOST_LINES)];
 
 static uint32_t word(const uint8_t *at)
@@ -53,9 +58,9 @@ static void print_row(const char *name, const uint32_t row[MEWIKOFU_SCHEDULES])
 }
 
 /* What no step of line k takes of its totals. The views of all its steps have it. */
-static void print_excess(size_t length, uint32_t k)
+static void print_excess(struct day day, uint32_t k)
 {
-    struct mewikofu_view view = mewikofu_view(day, length, k, 0);
+    struct mewikofu_view view = mewikofu_view(day.bytes, day.length, k, 0);
     struct mewikofu_excess excess = view.excess;
     if (sum(excess.operating) + sum(excess.pricing) + excess.actual == 0)
         return;
@@ -65,12 +70,12 @@ static void print_excess(size_t length, uint32_t k)
     printf(" effective actual %" PRIu32 "\n", excess.actual);
 }
 
-static void print_book(size_t length)
+static void print_book(struct day day)
 {
     printf("lines: %" PRIu32 "; dollars in schedules 1 to 5\n", word(book));
     for (uint32_t k = 0; k < word(book); k++) {
         print_line(book + MEWIKOFU_ENTRY_AT(k));
-        print_excess(length, k);
+        print_excess(day, k);
     }
     printf("day\ntotals  ");
     for (int s = 0; s < MEWIKOFU_SCHEDULES; s++)
@@ -81,33 +86,49 @@ static void print_book(size_t length)
     printf("\n");
 }
 
-/* Reads the file's bytes into `day`, at most one more than the longest day has. Answers whether it could be read. */
-static int read_day(const char *name, size_t *length)
+/* Reads all bytes of an open file. Answers whether they could be read. */
+static int read_all(FILE *file, struct day *day)
+{
+    size_t room = 0;
+    do {
+        room = room == 0 ? MEWIKOFU_AD_HOC_DAY_BYTES(MEWIKOFU_MOST_LINES, MEWIKOFU_MOST_AD_HOC) + 1 : 2 * room;
+        uint8_t *bytes = realloc(day->bytes, room);
+        if (bytes == NULL)
+            return 0;
+        day->bytes = bytes;
+        day->length += fread(bytes + day->length, 1, room - day->length, file);
+    } while (day->length == room);
+    return !ferror(file);
+}
+
+/* The bytes of the named file. Answers whether it could be read. */
+static int read_day(const char *name, struct day *day)
 {
     FILE *file = fopen(name, "rb");
     if (file == NULL)
         return 0;
-    *length = fread(day, 1, sizeof day, file);
-    int unread = ferror(file);
-    return fclose(file) == 0 && !unread;
+    int read = read_all(file, day);
+    return fclose(file) == 0 && read;
 }
 
 int main(int count, char **arguments)
 {
-    size_t length;
+    struct day day = {NULL, 0};
     if (count != 2) {
         fprintf(stderr, "usage: settle DAY\n");
         return 2;
     }
-    if (!read_day(arguments[1], &length)) {
+    if (!read_day(arguments[1], &day)) {
         fprintf(stderr, "%s can't be read\n", arguments[1]);
+        free(day.bytes);
         return 2;
     }
-    uint32_t number = mewikofu_settle(day, length, book, sizeof book);
+    uint32_t number = mewikofu_settle(day.bytes, day.length, book, sizeof book);
     if (number == MEWIKOFU_ACCEPTED)
-        print_book(length);
+        print_book(day);
     else
         printf("refused %" PRIu32 ": %s\n", number, mewikofu_words(number));
+    free(day.bytes);
     /* A full disk shows when the last bytes are written. */
     if (fflush(stdout) != 0 || ferror(stdout)) {
         fprintf(stderr, "the output can't be written\n");

@@ -1,12 +1,11 @@
 //! One input through the proved archive and the reference, every answer and every lent byte compared.
 
 use crate::interface;
+use crate::met::{pulled, Accepted, MET};
 use mewikofu::raw::{self, Cut, View};
 use mewikofu::Excess;
-use reference::layout::{book_length, Line, LINE_BYTES, MOST_LINES, SCHEDULES};
+use reference::layout::{book_length, Day, Line, LINE_BYTES, MOST_LINES};
 use reference::line_part::line_part;
-use reference::matching::pair;
-use reference::quantities::{operating_totals, pricing_totals};
 use std::ops::Range;
 
 /// Bytes behind the lent book, which no call may touch.
@@ -22,21 +21,6 @@ pub struct Call {
     pub step: usize,
     pub part: usize,
 }
-
-/// What accepted views and cuts are to meet. Some final payment of a viewed step is a revised one less a share of T; is
-/// negative though its line isn't accredited in the schedules of the matched rises; is negative where the bid is
-/// pulled; isn't 0 on the line's last step where the operating total exceeds M.
-pub const MET: [&str; 9] = [
-    "views with a share of T",
-    "views with a charge for unpaid rises",
-    "views with a charge where the bid is pulled",
-    "views of a line with a pulled bid",
-    "cuts of a line with a pulled bid",
-    "views with a payment beside an excess",
-    "views with an excess in the effective actual",
-    "views of a line with an excess",
-    "cuts of a line with an excess",
-];
 
 /// The numbers answered, and which of `MET` the answers are.
 pub struct Numbers {
@@ -72,16 +56,25 @@ impl Compare {
         self.day.extend(day);
         let view = self.view(day, call.line, call.step)?;
         let cut = self.cut(day, call.cut.clone())?;
-        let viewed = Line::new(line_part(day, call.line as u64)).filter(|_| view.number == 0);
-        let lent = Line::new(&day[call.cut.clone()]).filter(|_| cut.number == 0);
+        let settle = self.settle(day, call.room)?;
+        let part = self.part(day, call.part)?;
+        let viewed = (view.number == 0).then(|| Day::new(day).line(call.line));
+        let cut_line = Line::new(&day[call.cut.clone()]).filter(|_| cut.number == 0);
         viewed.map_or(Ok(()), |line| check_view(line, &view))?;
-        lent.map_or(Ok(()), |line| check_cut(line, &cut))?;
+        cut_line.map_or(Ok(()), |line| check_cut(line, &cut))?;
+        let accepted = Accepted {
+            settled: (settle == 0).then_some(day),
+            viewed: viewed.map(|line| (day, call.line, line, &view)),
+            cut: cut_line,
+            lent: (part == 0).then_some(day),
+            refused_own_row: view.number == 0 && cut.number == 12 && is_line(day, call),
+        };
         let numbers = Numbers {
-            settle: self.settle(day, call.room)?,
+            settle,
             cut: cut.number,
             view: view.number,
-            part: self.part(day, call.part)?,
-            met: met(viewed, &view, lent),
+            part,
+            met: accepted.met(),
         };
         match self.day == day {
             true => Ok(numbers),
@@ -144,6 +137,12 @@ impl Compare {
     }
 }
 
+/// The bytes cut are the line viewed.
+fn is_line(day: &[u8], call: &Call) -> bool {
+    let line = line_part(day, call.line as u64);
+    line.as_ptr_range() == day[call.cut.clone()].as_ptr_range()
+}
+
 /// The reference's view as the interface has it.
 fn view_of(view: reference::view::View) -> View {
     View {
@@ -169,48 +168,6 @@ fn view_of(view: reference::view::View) -> View {
             actual: view.excess.actual,
         },
     }
-}
-
-/// Which of `MET` hold, of the line viewed and of the line cut where they weren't refused.
-fn met(viewed: Option<Line>, view: &View, cut: Option<Line>) -> [bool; MET.len()] {
-    let has_pulled = |line: Option<Line>| line.is_some_and(|line| pulled(line).next().is_some());
-    [
-        has_share(view),
-        viewed.is_some_and(|line| has_charge_for_unpaid(line, view)),
-        viewed.is_some_and(|line| pulled(line).any(|s| view.finals[s] < 0)),
-        has_pulled(viewed),
-        has_pulled(cut),
-        viewed.is_some_and(|line| has_payment_beside_excess(line, view)),
-        view.excess.actual > 0,
-        viewed.is_some_and(has_excess),
-        cut.is_some_and(has_excess),
-    ]
-}
-
-fn has_excess(line: Line) -> bool {
-    let totals = [pricing_totals(line), operating_totals(line)];
-    let most = u64::from(line.greatest_break());
-    totals.as_flattened().iter().any(|&total| total > most)
-}
-
-fn has_payment_beside_excess(line: Line, view: &View) -> bool {
-    let in_schedule = |s: usize| view.excess.operating[s] > 0 && view.finals[s] != 0;
-    view.end == line.greatest_break() && (0..SCHEDULES).any(in_schedule)
-}
-
-fn has_share(view: &View) -> bool {
-    let own = |s| [view.initial, view.revised, view.modified].map(|kind| kind[s]);
-    (0..5).any(|s| !own(s).contains(&view.finals[s]))
-}
-
-fn has_charge_for_unpaid(line: Line, view: &View) -> bool {
-    let unpaid = |r, s| view.matches[pair(r, s)] == 0 || !line.accredited(r);
-    (1..5).any(|s| view.finals[s] < 0 && (0..s).all(|r| unpaid(r, s)))
-}
-
-/// The schedules whose bid is pulled.
-fn pulled(line: Line<'_>) -> impl Iterator<Item = usize> + '_ {
-    (0..SCHEDULES).filter(move |&s| line.is_pulled(s))
 }
 
 /// Where the bid is pulled the flag is 1.

@@ -2,10 +2,13 @@
 
 mod compare;
 mod interface;
+mod met;
 mod mutate;
 mod random;
+mod records;
 
-use compare::{Call, Compare, Numbers, MET, MOST_ROOM};
+use compare::{Call, Compare, Numbers, MOST_ROOM};
+use met::MET;
 use mewikofu::Refusal;
 use random::Random;
 use reference::generate::*;
@@ -61,8 +64,22 @@ struct Counts {
 }
 
 /// The places of docs/REFUSALS.md that a call checks.
-const SETTLE: &[&str] = &["header", "market", "each line", "all lines", "book"];
-const VIEW: &[&str] = &["header", "market", "each line", "all lines", "view"];
+const SETTLE: &[&str] = &[
+    "header",
+    "market",
+    "ad hoc records",
+    "each line",
+    "all lines",
+    "book",
+];
+const VIEW: &[&str] = &[
+    "header",
+    "market",
+    "ad hoc records",
+    "each line",
+    "all lines",
+    "view",
+];
 const CUT: &[&str] = &["cutter", "each line"];
 const PART: &[&str] = &["header", "line part"];
 
@@ -151,7 +168,7 @@ fn run(seed: u64, iterations: std::ops::Range<u64>) -> bool {
         count as f64 / seconds
     );
     if !counts.print() && count >= 100_000 {
-        println!("failed: a call didn't answer exactly the numbers of its places, or a kind of view or cut was never met");
+        println!("failed: a call didn't answer exactly the numbers of its places, or a kind of answer was never met");
         return false;
     }
     true
@@ -182,28 +199,28 @@ fn draw_days(seed: u64, round: u64) -> Vec<Vec<u8>> {
 
 fn draw_day(random: &mut Random) -> Vec<u8> {
     let seed = random.next();
-    let mut day = match random.below(48) {
-        0 => damaged_day(seed),
-        1 => set_fault_day(seed),
-        2 => pulled_fault_day(seed),
-        3 => excess_fault_day(seed),
-        4..8 => valid_day(seed),
-        8..12 => set_day(seed),
-        12..16 => pulled_day(seed),
-        16..18 => excess_day(seed),
-        18..20 => over_delivery_day(seed),
-        20..27 => small_day(seed),
-        27..34 => small_set_day(seed),
-        34..41 => small_pulled_day(seed),
-        41..45 => small_excess_day(seed),
-        _ => small_over_delivery_day(seed),
+    let mut day = match random.below(96) {
+        0 | 1 => damaged_day(seed),
+        2 => set_fault_day(seed),
+        3 => pulled_fault_day(seed),
+        4 => excess_fault_day(seed),
+        5..8 => ad_hoc_fault_day(seed),
+        8..10 => ad_hoc_damaged_day(seed),
+        10..14 => valid_day(seed),
+        14..18 => set_day(seed),
+        18..22 => pulled_day(seed),
+        22..24 => excess_day(seed),
+        24..26 => over_delivery_day(seed),
+        26..33 => small_day(seed),
+        33..40 => small_set_day(seed),
+        40..47 => small_pulled_day(seed),
+        47..51 => small_excess_day(seed),
+        51..54 => small_over_delivery_day(seed),
+        54..66 => ad_hoc_day(seed),
+        _ => small_ad_hoc_day(seed),
     };
-    let wanted = 1 + random.below(4);
-    if mutate::lines(&day) > wanted {
-        day.truncate(day_length(wanted));
-        put_words(&mut day, &header(wanted));
-    }
-    if day.len() >= LINES_OFFSET && random.one_in(3) {
+    records::keep_lines(&mut day, 1 + random.below(4));
+    if mutate::lines(&day) > 0 && random.one_in(3) {
         mutate::scatter(&mut day, random);
     }
     day
@@ -240,7 +257,7 @@ fn draw_call(day: &[u8], random: &mut Random) -> Call {
     };
     let line = draw_place(n, random);
     let cut = match line < n && !random.one_in(10) {
-        true => day_length(line)..day_length(line + 1),
+        true => records::line_at(day, line)..records::line_at(day, line + 1),
         false => {
             let start = random.below(day.len() + 1);
             let length = random.pick(&[0, 659, 660, 661, 1320]);
@@ -275,7 +292,7 @@ fn file(name: &str) -> bool {
     let mut count = 0;
     for line in (0..=n).chain([usize::MAX]) {
         let cut = match line < n {
-            true => day_length(line)..day_length(line + 1),
+            true => records::line_at(&day, line)..records::line_at(&day, line + 1),
             false => 0..day.len().min(LINE_BYTES),
         };
         for step in (0..=MOST_STEPS).chain([usize::MAX]) {

@@ -1,6 +1,7 @@
 //! Mutations of a day file: some that mostly keep it without fault, so that settling goes on to the payments, and some of any kind.
 
 use crate::random::Random;
+use crate::records::{self, layout, line_at, record_room};
 use reference::layout::*;
 use reference::quantities::{operating_totals, pricing_totals};
 
@@ -24,22 +25,23 @@ pub fn mutate(day: &mut Vec<u8>, random: &mut Random) {
 
 /// Header words that fit the length, so that a change of length gets past the header.
 fn repair_header(day: &mut Vec<u8>, random: &mut Random) {
-    let lines = lines(day);
+    let (layout, lines) = (layout(day), lines(day));
+    let records = record_room(day) as u32;
     if lines > 0 && random.one_in(2) {
-        day.truncate(day_length(lines));
+        day.truncate(layout.length(lines, records) as usize);
     }
-    if day.len() >= 16 {
-        put_words(day, &header(lines));
+    if day.len() >= layout.market() {
+        put_header(day, layout, lines, records);
     }
 }
 
-/// Whole lines that the day's bytes have room for.
+/// Whole lines that the day's bytes have room for; with records behind them no more than the header says.
 pub fn lines(day: &[u8]) -> usize {
-    day.len().saturating_sub(LINES_OFFSET) / LINE_BYTES
-}
-
-fn line_mut(day: &mut [u8], k: usize) -> &mut [u8] {
-    &mut day[day_length(k)..][..LINE_BYTES]
+    let room = day.len().saturating_sub(line_at(day, 0)) / LINE_BYTES;
+    match layout(day) {
+        Layout::Old => room,
+        Layout::AdHoc => room.min(word(day, LINE_COUNT) as usize),
+    }
 }
 
 /// How many of a bid's slots to take as used, at least 1.
@@ -47,7 +49,7 @@ fn used(line: &[u8], bid: usize) -> usize {
     (word(line, count_place(bid)) as usize).clamp(1, BID_SLOTS)
 }
 
-fn greatest_break(line: &[u8]) -> u32 {
+pub fn greatest_break(line: &[u8]) -> u32 {
     let last = |bid| word(line, break_place(bid, used(line, bid) - 1));
     (0..SCHEDULES).map(last).fold(0, u32::max)
 }
@@ -76,7 +78,7 @@ fn some_break(line: &[u8], random: &mut Random) -> u32 {
 }
 
 /// The value, one less or one more.
-fn near(value: u32, random: &mut Random) -> u32 {
+pub fn near(value: u32, random: &mut Random) -> u32 {
     match random.below(4) {
         0 => value.saturating_sub(1),
         1 => value.saturating_add(1),
@@ -89,10 +91,12 @@ fn change_keeping(day: &mut Vec<u8>, random: &mut Random) {
     if n == 0 {
         return change_any(day, random);
     }
-    match random.below(20) {
+    match random.below(24) {
         0 => change_market(day, n, random),
         1 => change_lines(day, n, random),
         2 => scatter(day, random),
+        3 if random.one_in(2) => records::change_layout(day, random),
+        4..9 if layout(day) == Layout::AdHoc => records::change_keeping(day, random),
         _ => {
             let k = random.below(n);
             change_line(line_mut(day, k), random);
@@ -102,12 +106,21 @@ fn change_keeping(day: &mut Vec<u8>, random: &mut Random) {
 
 /// Constrained on quantities that rise and fall from schedule to schedule, at prices that are paid, with clawback: what T is shared for.
 /// Nearly all of the day's steps take part, on both sides.
-pub fn scatter(day: &mut [u8], random: &mut Random) {
-    put_word(day, CLAWBACK, 1);
+pub fn scatter(day: &mut Vec<u8>, random: &mut Random) {
+    scatter_lines(day, random);
+    if layout(day) == Layout::AdHoc {
+        records::move_to_records(day, random);
+    }
+}
+
+fn scatter_lines(day: &mut [u8], random: &mut Random) {
+    let table = market_mut(day);
+    put_word(table, CLAWBACK, 1);
     let market = random.pick(&[0, 0, PRICE_LIMIT / 4, PRICE_LIMIT / 2, PRICE_LIMIT]);
     for s in 0..SCHEDULES {
-        put_word(day, CAP_MARK + s, u32::from(random.one_in(8)));
-        put_word(day, MARKET_PRICE + s, near(market, random).min(PRICE_LIMIT));
+        put_word(table, CAP_MARK + s, u32::from(random.one_in(8)));
+        let price = near(market, random).min(PRICE_LIMIT);
+        put_word(table, MARKET_PRICE + s, price);
     }
     let by_schedule = random.one_in(2);
     let pulled = random.one_in(3);
@@ -144,12 +157,13 @@ fn change_market(day: &mut [u8], n: usize, random: &mut Random) {
     let k = random.below(n);
     let price = some_price(line_mut(day, k), random);
     let price = near(price, random).min(PRICE_LIMIT);
+    let table = market_mut(day);
     match random.below(8) {
-        0 => put_word(day, PRICE_CAP, price),
-        1 => flip(day, CAP_MARK + random.below(SCHEDULES)),
-        2 => flip(day, CLAWBACK),
-        3 => (0..SCHEDULES).for_each(|s| put_word(day, MARKET_PRICE + s, price)),
-        _ => put_word(day, MARKET_PRICE + random.below(SCHEDULES), price),
+        0 => put_word(table, PRICE_CAP, price),
+        1 => flip(table, CAP_MARK + random.below(SCHEDULES)),
+        2 => flip(table, CLAWBACK),
+        3 => (0..SCHEDULES).for_each(|s| put_word(table, MARKET_PRICE + s, price)),
+        _ => put_word(table, MARKET_PRICE + random.below(SCHEDULES), price),
     }
 }
 
@@ -162,21 +176,39 @@ fn change_lines(day: &mut Vec<u8>, n: usize, random: &mut Random) {
     match random.below(3) {
         0 => {
             let line = line_mut(day, k).to_vec();
-            day.copy_within(day_length(other)..day_length(other + 1), day_length(k));
+            let (from, to) = (line_at(day, other), line_at(day, k));
+            day.copy_within(from..from + LINE_BYTES, to);
             line_mut(day, other).copy_from_slice(&line);
         }
         1 if n < 5 => {
             let mut line = line_mut(day, k).to_vec();
             put_word(&mut line, PARTICIPANT, random.next() as u32);
-            day.truncate(day_length(n));
-            day.extend(line);
-            put_words(day, &header(n + 1));
+            insert_lines(day, n, &line);
         }
-        _ if n > 1 => {
-            day.drain(day_length(k)..day_length(k + 1));
-            put_words(day, &header(n - 1));
-        }
+        _ if n > 1 => take_line_out(day, n, k),
         _ => {}
+    }
+}
+
+/// Adds whole lines behind the n there, before the records.
+fn insert_lines(day: &mut Vec<u8>, n: usize, lines: &[u8]) {
+    let (layout, records) = (layout(day), record_room(day) as u32);
+    let behind = day.split_off(layout.line(n));
+    day.extend(lines);
+    day.extend(&behind[..RECORD_BYTES * records as usize]);
+    put_header(day, layout, n + lines.len() / LINE_BYTES, records);
+}
+
+/// Takes line k out of n, and the records for it.
+fn take_line_out(day: &mut Vec<u8>, n: usize, k: usize) {
+    let layout = layout(day);
+    let mut records = records::records(day);
+    records::take_line_out(&mut records, k);
+    day.truncate(layout.line(n));
+    day.drain(layout.line(k)..layout.line(k + 1));
+    put_header(day, layout, n - 1, 0);
+    if layout == Layout::AdHoc {
+        records::put_records(day, &records);
     }
 }
 
@@ -255,7 +287,7 @@ fn change_accreditation(line: &mut [u8], random: &mut Random) {
 }
 
 /// A total of at most M, often at a break, or one above M that is accepted.
-fn quantity(line: &[u8], most: u32, random: &mut Random) -> u32 {
+pub fn quantity(line: &[u8], most: u32, random: &mut Random) -> u32 {
     let at_break = some_break(line, random);
     let some = random.range(0, most);
     let near_break = near(at_break, random).min(most);
@@ -441,7 +473,7 @@ fn change_any(day: &mut Vec<u8>, random: &mut Random) {
             day.truncate(length);
         }
         _ if words == 0 => day.resize(day_length(1), random.next() as u8),
-        3 => put_word(day, random.below(words.min(16)), some_value(random)),
+        3 => put_word(day, random.below(words.min(18)), some_value(random)),
         4 | 5 => put_word(day, random.below(words), some_value(random)),
         6 | 7 => {
             let bit = random.below(8 * day.len());
@@ -460,9 +492,11 @@ fn change_any(day: &mut Vec<u8>, random: &mut Random) {
         11 if n > 1 => {
             let (k, other) = (random.below(n), random.below(n));
             let part = random.pick(&[12, LINE_BYTES]);
-            day.copy_within(day_length(k)..day_length(k) + part, day_length(other));
+            let (from, to) = (line_at(day, k), line_at(day, other));
+            day.copy_within(from..from + part, to);
         }
         12 if n > 0 && n < 64 && random.one_in(32) => add_lines(day, n, random),
+        12 | 13 if n > 0 && layout(day) == Layout::AdHoc => records::cross_limit(day, random),
         _ if n > 0 => {
             let k = random.below(n);
             cross_limit(line_mut(day, k), random);
@@ -475,12 +509,12 @@ fn change_any(day: &mut Vec<u8>, random: &mut Random) {
 fn add_lines(day: &mut Vec<u8>, n: usize, random: &mut Random) {
     let wanted = random.pick(&[63, MOST_LINES, MOST_LINES, MOST_LINES + 1]);
     let mut line = line_mut(day, random.below(n)).to_vec();
-    day.truncate(day_length(n));
+    let mut lines = Vec::new();
     for k in n..wanted {
         put_word(&mut line, PARTICIPANT, 1_000_000 + k as u32);
-        day.extend(&line);
+        lines.extend(&line);
     }
-    put_words(day, &header(wanted));
+    insert_lines(day, n, &lines);
 }
 
 /// A limit of a line, or one beyond it.

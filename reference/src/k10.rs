@@ -10,11 +10,11 @@ pub fn k10() -> Vec<u8> {
 /// all figures but side and prices are K10's.
 pub fn k10_of(side: Side) -> Vec<u8> {
     let mut day = vec![0; day_length(1)];
-    put_words(&mut day, &header(1));
+    put_header(&mut day, Layout::Old, 1, 0);
     for s in 0..SCHEDULES {
-        put_word(&mut day, MARKET_PRICE + s, 30_000);
+        put_word(market_mut(&mut day), MARKET_PRICE + s, 30_000);
     }
-    fill_line(&mut day[LINES_OFFSET..], side);
+    fill_line(line_mut(&mut day, 0), side);
     day
 }
 

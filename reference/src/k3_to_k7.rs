@@ -7,14 +7,14 @@ use crate::table1;
 
 pub fn k3_to_k7() -> Vec<u8> {
     let mut day = k10();
-    let own = day.split_off(LINES_OFFSET);
+    let own = day.split_off(day_length(0));
     let lines = [
         (3, table1::line()),
         (6, one_step(&own, [10, 20, 30, 40, 50], 5)),
         (7, one_step(&own, [3, 5, 2, 4, 1], 1)),
         (10, own),
     ];
-    put_words(&mut day, &header(lines.len()));
+    put_header(&mut day, Layout::Old, lines.len(), 0);
     for (case, mut line) in lines {
         put_word(&mut line, PARTICIPANT, case);
         day.extend(line);

@@ -1,5 +1,5 @@
-//! Ancillary payments of one gas day, written from document 01 (the scope), document 02's requests F-7, F-6 and F-2
-//! and the functional design (FD).
+//! Ancillary payments of one gas day, written from document 01 (the scope), document 02's requests F-7, F-6, F-2
+//! and F-5 and the functional design (FD).
 
 pub mod cut;
 pub mod figures;

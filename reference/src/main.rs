@@ -6,7 +6,7 @@ use reference::k3_to_k7::k3_to_k7;
 use reference::layout::Side;
 use reference::pack;
 use reference::refusal::day_number;
-use reference::report::{cut_report, settle_report, steps_report, MOST_INPUT};
+use reference::report::{cut_report, settle_report, steps_report};
 use std::io::{self, BufReader, BufWriter, Read, Write};
 use std::process::ExitCode;
 
@@ -14,13 +14,15 @@ const USAGE: &str = "usage: reference settle|steps < DAY
        reference cut < LINE
        reference day SEED KIND
        reference days SEED COUNT KIND
-       reference lines SEED COUNT [sets|pulled|excess]
+       reference lines SEED COUNT [sets|pulled|excess|ad-hoc]
        reference edges|accreditations|pulled
-       reference excess|excess-lines [withdrawals]
+       reference excess|excess-lines|ad-hoc [withdrawals]
+       reference ad-hoc-lengths|ad-hoc-long
        reference expect settle|steps|cut|number < PACK
        reference k10|k3-to-k7
 KIND is valid, small, damaged, mixed, sets, small-sets, set-faults, pulled, small-pulled, pulled-faults, excess,
-small-excess, excess-faults, over-delivery or small-over-delivery.";
+small-excess, excess-faults, over-delivery, small-over-delivery, ad-hoc, small-ad-hoc, ad-hoc-faults or
+ad-hoc-damaged.";
 
 fn main() -> ExitCode {
     let arguments: Vec<String> = std::env::args().skip(1).collect();
@@ -51,6 +53,10 @@ fn run(arguments: &[&str], out: &mut impl Write) -> io::Result<bool> {
         ["excess", "withdrawals"] => write_pack(excess_k10_days(Side::Withdrawal), out)?,
         ["excess-lines"] => write_pack(excess_k10_lines(Side::Injection), out)?,
         ["excess-lines", "withdrawals"] => write_pack(excess_k10_lines(Side::Withdrawal), out)?,
+        ["ad-hoc"] => write_pack(ad_hoc_k10_days(Side::Injection), out)?,
+        ["ad-hoc", "withdrawals"] => write_pack(ad_hoc_k10_days(Side::Withdrawal), out)?,
+        ["ad-hoc-lengths"] => write_pack(ad_hoc_length_days(), out)?,
+        ["ad-hoc-long"] => write_pack(ad_hoc_long_days(), out)?,
         ["expect", kind] => return expect(kind, out),
         [kind] => return report(kind, out),
         ["day", seed, kind] => {
@@ -98,6 +104,10 @@ fn generator(kind: &str) -> Option<Draw> {
         "excess-faults" => Some(|_, seed| excess_fault_day(seed)),
         "over-delivery" => Some(|_, seed| over_delivery_day(seed)),
         "small-over-delivery" => Some(|_, seed| small_over_delivery_day(seed)),
+        "ad-hoc" => Some(|_, seed| ad_hoc_day(seed)),
+        "small-ad-hoc" => Some(|_, seed| small_ad_hoc_day(seed)),
+        "ad-hoc-faults" => Some(|_, seed| ad_hoc_fault_day(seed)),
+        "ad-hoc-damaged" => Some(|_, seed| ad_hoc_damaged_day(seed)),
         _ => None,
     }
 }
@@ -111,6 +121,7 @@ fn line_generator(kind: &str) -> Option<Draw> {
         "sets" => Some(|k, seed| every_third(k, seed, set_fault_line, set_line)),
         "pulled" => Some(|k, seed| every_third(k, seed, pulled_fault_line, pulled_line)),
         "excess" => Some(|k, seed| every_third(k, seed, excess_fault_line, excess_line)),
+        "ad-hoc" => Some(|_, seed| ad_hoc_line(seed)),
         _ => None,
     }
 }
@@ -147,10 +158,7 @@ fn report(kind: &str, out: &mut impl Write) -> io::Result<bool> {
         return Ok(false);
     };
     let mut input = Vec::new();
-    io::stdin()
-        .lock()
-        .take(MOST_INPUT as u64)
-        .read_to_end(&mut input)?;
+    io::stdin().lock().read_to_end(&mut input)?;
     out.write_all(report(&input).as_bytes())?;
     Ok(true)
 }
@@ -165,8 +173,7 @@ fn expect(kind: &str, out: &mut impl Write) -> io::Result<bool> {
     };
     let mut input = BufReader::new(io::stdin().lock());
     while let Some(entry) = pack::read(&mut input)? {
-        let read = &entry[..entry.len().min(MOST_INPUT)];
-        out.write_all(report(read).as_bytes())?;
+        out.write_all(report(&entry).as_bytes())?;
     }
     Ok(true)
 }

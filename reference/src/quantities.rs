@@ -1,5 +1,5 @@
-//! Totals, their allocation to steps, AGINO, MSIQ and constrained on quantities (01 "Quantities", 02 F-2, FD 5 to 7 and
-//! 8.1).
+//! Totals, their allocation to steps, AGINO, MSIQ and constrained on quantities (01 "Quantities", 02 F-2 and F-5, FD
+//! 5 to 7 and 8.1).
 
 use crate::cut::Step;
 use crate::layout::*;
@@ -10,19 +10,16 @@ pub fn pricing_totals(line: Line) -> BySchedule<u64> {
     std::array::from_fn(|s| (0..SCHEDULES).map(|i| entry(s, i)).sum())
 }
 
-/// The operating total of each schedule, in 64 bits likewise.
+/// The operating total of each schedule, of the row in force, in 64 bits likewise.
 pub fn operating_totals(line: Line) -> BySchedule<u64> {
-    let entry = |s, i| u64::from(line.word(operating_place(s, i)));
+    let entry = |s, i| u64::from(line.operating(s, i));
     std::array::from_fn(|s| (0..SCHEDULES).map(|i| entry(s, i)).sum())
 }
 
 /// The effective actual (FD 6.1.1). It is at most the operating total of schedule 5.
 pub fn effective_actual(line: Line) -> u32 {
     let last = SCHEDULES - 1;
-    let entry = |i| {
-        line.word(operating_place(last, i))
-            .min(line.word(actual_place(i)))
-    };
+    let entry = |i| line.operating(last, i).min(line.word(actual_place(i)));
     (0..SCHEDULES).map(entry).sum()
 }
 

@@ -1,9 +1,10 @@
-//! The refusals (01 "Where each refusal is checked", 02 F-7, F-6 and F-2). Each call answers the number of the first
-//! fault met, or 0.
+//! The refusals (01 "Where each refusal is checked", 02 F-7, F-6, F-2 and F-5). Each call answers the number of the
+//! first fault met, or 0.
 
 use crate::cut::Steps;
-use crate::layout::{self, *};
+use crate::layout::*;
 use crate::quantities::{operating_totals, pricing_totals};
+use std::collections::BTreeSet;
 
 /// Passed, or the number of the fault.
 type Check = Result<(), u32>;
@@ -20,7 +21,7 @@ fn number(check: Check) -> u32 {
     check.err().unwrap_or(0)
 }
 
-/// The number of a day's file: 1 to 14, or 0.
+/// The number of a day's file: 1 to 14, 19 to 21, or 0.
 pub fn day_number(day: &[u8]) -> u32 {
     number(check_day(day))
 }
@@ -56,7 +57,7 @@ pub fn cut_number(line: &[u8]) -> u32 {
 }
 
 fn line_count(day: &[u8]) -> usize {
-    word(day, 0) as usize
+    word(day, LINE_COUNT) as usize
 }
 
 fn check_line_index(day: &[u8], line: u64) -> Check {
@@ -65,28 +66,43 @@ fn check_line_index(day: &[u8], line: u64) -> Check {
 
 fn check_day(bytes: &[u8]) -> Check {
     check_header(bytes)?;
-    check_market(bytes)?;
+    check_market(market(bytes))?;
     let day = Day::new(bytes);
+    check_records(&day)?;
     day.lines().try_for_each(check_line)?;
     check_keys(&day)
 }
 
-/// 1 to 3.
+/// 1 to 3, and 19.
 fn check_header(day: &[u8]) -> Check {
-    require(day.len() >= LINES_OFFSET, 1)?;
+    require(day.len() >= LEAST_DAY, 1)?;
     let n = line_count(day);
     require((1..=MOST_LINES).contains(&n), 2)?;
-    let header: [u32; 4] = std::array::from_fn(|place| word(day, place));
-    require(header == layout::header(n) && day.len() == day_length(n), 3)
+    let (layout, records) = (Layout::named(day), record_count(day));
+    let words = (0..layout.header_words()).map(|place| u64::from(word(day, place)));
+    let fits = words.eq(layout.header(n, records));
+    require(fits && day.len() as u64 == layout.length(n, records), 3)?;
+    require(records <= MOST_RECORDS, 19)
 }
 
 /// 4 and 5.
-fn check_market(day: &[u8]) -> Check {
-    let all_below = |places: &[usize], limit| places.iter().all(|&p| word(day, p) <= limit);
-    const PRICES: [usize; 6] = [4, 5, 6, 7, 8, PRICE_CAP];
-    const SWITCHES: [usize; 6] = [9, 10, 11, 12, 13, CLAWBACK];
-    require(all_below(&PRICES, PRICE_LIMIT), 4)?;
-    require(all_below(&SWITCHES, 1), 5)
+fn check_market(table: &[u8]) -> Check {
+    let at_most = |limit, place| word(table, place) <= limit;
+    let mut prices = (MARKET_PRICE..CAP_MARK).chain([PRICE_CAP]);
+    let mut switches = (CAP_MARK..PRICE_CAP).chain([CLAWBACK]);
+    require(prices.all(|place| at_most(PRICE_LIMIT, place)), 4)?;
+    require(switches.all(|place| at_most(1, place)), 5)
+}
+
+/// 20 over all ad hoc records, then 21.
+fn check_records(day: &Day) -> Check {
+    let is_there = |record: Record| {
+        let [line, schedule, _] = record.key();
+        (line as usize) < day.line_count() && (1..=SCHEDULES as u32).contains(&schedule)
+    };
+    require(day.records().all(is_there), 20)?;
+    let mut keys = BTreeSet::new();
+    require(day.records().all(|record| keys.insert(record.key())), 21)
 }
 
 /// 6 to 13.

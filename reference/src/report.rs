@@ -7,9 +7,6 @@ use crate::settle::settle;
 use crate::view::{DayView, Excess, View};
 use std::fmt::{Display, Write};
 
-/// A program reads at most so many bytes of a day or a line.
-pub const MOST_INPUT: usize = 65_536;
-
 pub fn refused(number: u32) -> String {
     format!("refused {number}\n")
 }

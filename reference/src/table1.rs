@@ -48,11 +48,8 @@ pub fn line() -> Vec<u8> {
 
 /// A day of that one line with a market table of zeros.
 pub fn day() -> Vec<u8> {
-    let mut day: Vec<u8> = [1, 16, 64, 724]
-        .into_iter()
-        .flat_map(u32::to_le_bytes)
-        .collect();
-    day.resize(LINES_OFFSET, 0);
+    let mut day = vec![0; day_length(0)];
+    put_header(&mut day, Layout::Old, 1, 0);
     day.extend(line());
     day
 }

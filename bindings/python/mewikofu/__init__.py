@@ -23,11 +23,13 @@ if TYPE_CHECKING:
 __all__ = [
     "ACCREDITED",
     "MATCHES",
+    "MOST_AD_HOC",
     "MOST_EXCESS",
     "MOST_LINES",
     "MOST_STEPS",
     "NOT_ACCREDITED",
     "SCHEDULES",
+    "AdHoc",
     "Book",
     "BookLine",
     "Cut",
@@ -36,12 +38,14 @@ __all__ = [
     "View",
     "accreditation_in",
     "accredited",
+    "ad_hoc_records",
     "book_bytes",
     "cut",
     "line_part",
     "settle",
     "settle_into",
     "view",
+    "with_ad_hoc",
 ]
 __version__ = "0.3.0"
 
@@ -49,6 +53,8 @@ MOST_LINES = 64
 SCHEDULES = 5
 MOST_STEPS = 56
 MATCHES = 10
+# The most ad hoc records of a day.
+MOST_AD_HOC = 64
 # The most MJ by which a pricing or operating total may be above the greatest break of its line's bids.
 MOST_EXCESS = 1000
 
@@ -61,7 +67,7 @@ ACCREDITED = 1
 _REFUSALS: Dict[int, Tuple[str, str]] = {
     1: ("header", "the file is under 64 bytes"),
     2: ("header", "the line count is 0 or above 64"),
-    3: ("header", "the header's offsets or length, or the file's length, aren't those of its line count"),
+    3: ("header", "the header's offsets or length, or the file's length, aren't those of its counts of lines and ad hoc records"),
     4: ("market", "a market price or the administered price cap is above 10,000,000 price units"),
     5: ("market", "a cap mark or the clawback switch is above 1"),
     6: ("each line", "a line's side is above 1, or its accreditation is 2 to 31 or above 63"),
@@ -77,6 +83,9 @@ _REFUSALS: Dict[int, Tuple[str, str]] = {
     16: ("view, line part", "the day has no such line"),
     17: ("view", "the line has no such step"),
     18: ("cutter", "the line isn't 660 bytes"),
+    19: ("header", "the count of ad hoc records is above 64"),
+    20: ("ad hoc records", "an ad hoc record names a line that the day doesn't have, or a schedule other than 1 to 5"),
+    21: ("ad hoc records", "two ad hoc records have the same line, schedule and order number"),
 }
 # tools/refusals writes to here.
 
@@ -95,6 +104,18 @@ class Refusal(Exception):
 
     def __reduce__(self) -> Tuple[Type[Refusal], Tuple[int]]:
         return Refusal, (self.number,)
+
+
+@dataclass(frozen=True)
+class AdHoc:
+    """An ad hoc record of a day file (document 02, F-5): a row of operating quantities, in MJ by interval, that stands for the line's own in one schedule.
+    Line and schedule count from 0; the file counts schedules from 1. Of the records for a line and a schedule the one with the highest order number is in
+    force, wherever it stands in the file."""
+
+    line: int
+    schedule: int
+    order: int
+    quantities: Tuple[int, ...]
 
 
 @dataclass(frozen=True)
@@ -207,7 +228,8 @@ def view(day: ReadableBuffer, line: SupportsIndex, step: SupportsIndex) -> View:
 
 
 def cut(line: ReadableBuffer) -> Cut:
-    """Cuts the 660 bytes of one line into its steps."""
+    """Cuts the 660 bytes of one line into its steps. The cutter reads the line's own operating rows, so of an accepted day with ad hoc records it may refuse
+    a line's part with 12."""
     data = _bytes(line)
     answer = _library.mewikofu_cut(data, len(data))
     _accept(answer.number)
@@ -221,11 +243,37 @@ def cut(line: ReadableBuffer) -> Cut:
 
 
 def line_part(day: ReadableBuffer, k: SupportsIndex) -> memoryview:
-    """The bytes of line k (from 0) within the day's own, as a memoryview of them. Only the header is checked."""
+    """The bytes of line k (from 0) within the day's own, as a memoryview of them, with the line's own operating rows. Only the header is checked."""
     data = _bytes(day)
     at, length = ctypes.c_size_t(), ctypes.c_size_t()
     _accept(_library.mewikofu_line_part(data, len(data), _size(k), at, length))
     return memoryview(day).cast("B")[at.value : at.value + length.value]
+
+
+def ad_hoc_records(day: ReadableBuffer) -> Tuple[AdHoc, ...]:
+    """The ad hoc records of a day, in the file's order; none in the layout without them. The header is checked, and of each record that it names a line and a
+    schedule (20)."""
+    data = _bytes(day)
+    _, records = _parts(data)
+    n = struct.unpack_from("<I", data)[0]
+    found = []
+    for line, schedule, order, *quantities in _RECORD.iter_unpack(records):
+        if line >= n or not 1 <= schedule <= SCHEDULES:
+            raise Refusal(20)
+        found.append(AdHoc(line, schedule - 1, order, tuple(quantities)))
+    return tuple(found)
+
+
+def with_ad_hoc(day: ReadableBuffer, records: Iterable[AdHoc]) -> bytes:
+    """The same day with these records after those that it has, in the layout with ad hoc records. Only the header is checked. With more than MOST_AD_HOC
+    records in all the day is refused with 19. A number that a word can't hold raises ValueError, as a schedule does that isn't 0 to 4."""
+    data = _bytes(day)
+    market_and_lines, before = _parts(data)
+    behind = before + b"".join(map(_record, records))
+    at = _AD_HOC_HEADER.size + len(market_and_lines)
+    n = struct.unpack_from("<I", data)[0]
+    header = _AD_HOC_HEADER.pack(n, _AD_HOC_HEADER.size, _AD_HOC_HEADER.size + _MARKET_BYTES, at + len(behind), len(behind) // _RECORD.size, at)
+    return header + market_and_lines + behind
 
 
 def accreditation_in(schedules: Iterable[SupportsIndex]) -> int:
@@ -250,6 +298,25 @@ def accredited(word: SupportsIndex, s: SupportsIndex) -> bool:
 def book_bytes(n: int) -> int:
     """The length of a book of n lines."""
     return 96 + 56 * n
+
+
+def _parts(data: bytes) -> Tuple[bytes, bytes]:
+    """A day's market table with its lines, and its ad hoc records."""
+    line_part(data, 0)  # checks the header
+    n, market_at = struct.unpack_from("<2I", data)
+    lines_end = market_at + _MARKET_BYTES + _LINE_BYTES * n
+    return data[market_at:lines_end], data[lines_end:]
+
+
+def _record(record: AdHoc) -> bytes:
+    """The bytes of an ad hoc record in the file."""
+    schedule = _schedule(record.schedule) + 1
+    if len(record.quantities) != SCHEDULES:
+        raise ValueError("an ad hoc record has five quantities")
+    try:
+        return _RECORD.pack(record.line, schedule, record.order, *record.quantities)
+    except struct.error as error:
+        raise ValueError(f"a number of an ad hoc record isn't a word of the file: {error}") from None
 
 
 def _book(data: bytes) -> Book:
@@ -291,6 +358,11 @@ def _accept(number: int) -> None:
         raise Refusal(number)
 
 
+# Parts of the day file: a header with ad hoc records, the market table, a line, a record.
+_AD_HOC_HEADER = struct.Struct("<6I")
+_MARKET_BYTES = 48
+_LINE_BYTES = 660
+_RECORD = struct.Struct("<8I")
 # Accreditation words of the empty and the full set of schedules.
 _NO_SCHEDULE = 32
 _ALL_SCHEDULES = 63

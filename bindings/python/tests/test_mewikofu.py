@@ -253,6 +253,66 @@ class ExcessTest(unittest.TestCase):
         self.assertEqual(seen, 6)
 
 
+class AdHocTest(unittest.TestCase):
+    def record(self, schedule, order, total):
+        return mewikofu.AdHoc(0, schedule, order, (total // 2, total - total // 2, 0, 0, 0))
+
+    def words(self, day, place, words):
+        """The day with words put at a byte place."""
+        changed = bytearray(day)
+        changed[place : place + 4 * len(words)] = b"".join(word.to_bytes(4, "little") for word in words)
+        return bytes(changed)
+
+    def test_rows(self):
+        # The row with the highest order number stands for the line's own, which is then not looked at.
+        for s, total in itertools.product(range(5), (0, 1700, 4000)):
+            row, other = self.record(s, 2**32 - 1, total), self.record(s, 2**31, 9000)
+            place = 64 + 540 + 20 * s
+            written = self.words(K10, place, row.quantities)
+            wrong_own = self.words(K10, place, (2**32 - 1,))
+            for records in ((row,), (row, other), (other, row)):
+                day = mewikofu.with_ad_hoc(wrong_own, records)
+                self.assertEqual(mewikofu.settle(day), mewikofu.settle(written))
+                for step in (0, 1):
+                    self.assertEqual(mewikofu.view(day, 0, step), mewikofu.view(written, 0, step))
+                self.assertEqual(mewikofu.ad_hoc_records(day), records)
+                self.assertEqual(bytes(mewikofu.line_part(day, 0)), wrong_own[64:])
+                self.assertEqual(number(mewikofu.cut, mewikofu.line_part(day, 0)), 12)
+
+    def test_layout(self):
+        self.assertEqual(mewikofu.ad_hoc_records(K10), ())
+        none = mewikofu.with_ad_hoc(K10, ())
+        self.assertEqual(none[:24], self.words(bytes(24), 0, (1, 24, 72, 732, 0, 732)))
+        self.assertEqual(none[24:], K10[16:])
+        self.assertEqual(mewikofu.settle(none), mewikofu.settle(K10))
+        one = mewikofu.with_ad_hoc(none, [self.record(1, 7, 2500)])
+        two = mewikofu.with_ad_hoc(one, [self.record(2, 7, 2500)])
+        self.assertEqual(two, mewikofu.with_ad_hoc(K10, [self.record(1, 7, 2500), self.record(2, 7, 2500)]))
+        self.assertEqual(number(mewikofu.with_ad_hoc, K10[:-1], ()), 3)
+        for wrong in (self.record(5, 7, 1), self.record(1, 2**32, 1), self.record(1, -1, 1), mewikofu.AdHoc(0, 1, 7, (1, 2, 3, 4))):
+            self.assertRaises(ValueError, mewikofu.with_ad_hoc, K10, [wrong])
+
+    def test_refused(self):
+        most = [self.record(1, order, 2000) for order in range(mewikofu.MOST_AD_HOC)]
+        day = mewikofu.with_ad_hoc(K10, most)
+        self.assertEqual(number(mewikofu.settle, day), 0)
+        day = mewikofu.with_ad_hoc(day, most[:1])
+        calls = (mewikofu.settle, day), (mewikofu.view, day, 0, 0), (mewikofu.line_part, day, 0), (mewikofu.ad_hoc_records, day)
+        self.assertEqual([number(*call) for call in calls], [19] * 4)
+        self.assertEqual(number(mewikofu.settle, mewikofu.with_ad_hoc(K10, [most[3], most[4], most[3]])), 21)
+        one = mewikofu.with_ad_hoc(K10, most[:1])
+        for place, word in ((732, 1), (732, 2**32 - 1), (736, 0), (736, 6)):
+            day = self.words(one, place, (word,))
+            self.assertEqual((number(mewikofu.settle, day), number(mewikofu.ad_hoc_records, day)), (20, 20))
+
+    def test_worked_days(self):
+        # The figures of an implementation of its own.
+        folder = ROOT / "reference/tests/worked"
+        for name in ("F-5-1", "F-5-2", "F-5-3"):
+            day = (folder / f"{name}.day").read_bytes()
+            self.assertEqual(report(mewikofu.settle(day)), (folder / f"{name}.report").read_text())
+
+
 class LentTest(unittest.TestCase):
     def test_book(self):
         book = mewikofu.settle(K10).data
@@ -423,12 +483,13 @@ class HeaderTest(unittest.TestCase):
         for structure, name, size in ((mewikofu._Excess, "excess", 44), (mewikofu._View, "view", 400), (mewikofu._Cut, "cut", 1416)):
             self.assertEqual([field[0] for field in structure._fields_], self.fields(f"mewikofu_{name}"))
             self.assertEqual(ctypes.sizeof(structure), size)
-        self.assertIn(f"\n#define MEWIKOFU_MOST_EXCESS {mewikofu.MOST_EXCESS}\n", self.HEADER)
+        for name in ("MOST_EXCESS", "MOST_AD_HOC"):
+            self.assertIn(f"\n#define MEWIKOFU_{name} {getattr(mewikofu, name)}\n", self.HEADER)
 
 
 class ReportTest(unittest.TestCase):
     def test_example_days(self):
-        for name in ("k10", "both-sides", "withdrawals", "rules", "accreditation", "pulled", "excess", "winter"):
+        for name in ("k10", "both-sides", "withdrawals", "rules", "accreditation", "pulled", "excess", "ad-hoc", "winter"):
             day = (ROOT / f"examples/{name}.day").read_bytes()
             self.assertEqual(report(mewikofu.settle(day)), (ROOT / f"examples/{name}.report").read_text())
 

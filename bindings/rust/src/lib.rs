@@ -5,12 +5,14 @@
 //! takes less than 20 KB of stack.
 
 mod accreditation;
+mod ad_hoc;
 mod answers;
 mod book;
 pub mod raw;
 mod refusal;
 
 pub use accreditation::Accreditation;
+pub use ad_hoc::{ad_hoc_records, with_ad_hoc, AdHoc};
 pub use answers::{match_place, Cut, Excess, View};
 pub use book::{book_bytes, Book, BookLine, Side};
 pub use refusal::Refusal;
@@ -23,6 +25,9 @@ pub const SCHEDULES: usize = 5;
 pub const MOST_STEPS: usize = 56;
 pub const MATCHES: usize = 10;
 pub const LINE_BYTES: usize = 660;
+/// The most ad hoc records of a day, and the bytes of one.
+pub const MOST_AD_HOC: usize = 64;
+pub const AD_HOC_BYTES: usize = 32;
 /// The most MJ by which a pricing or operating total may be above the greatest break of its line's bids.
 pub const MOST_EXCESS: u32 = 1_000;
 
@@ -43,12 +48,13 @@ pub fn view(day: &[u8], line: usize, step: usize) -> Result<View, Refusal> {
     raw::view(day, line, step).try_into()
 }
 
-/// Cuts the 660 bytes of one line into its steps.
+/// Cuts the 660 bytes of one line into its steps. The cutter reads the line's own operating rows, so of an accepted day with ad hoc records it may
+/// refuse a line's part with 12.
 pub fn cut(line: &[u8]) -> Result<Cut, Refusal> {
     raw::cut(line).try_into()
 }
 
-/// The bytes of line k (from 0) within the day's own. Only the day's header is checked.
+/// The bytes of line k (from 0) within the day's own, with the line's own operating rows. Only the day's header is checked.
 pub fn line_part(day: &[u8], k: usize) -> Result<&[u8], Refusal> {
     let (mut at, mut length) = (0, 0);
     refusal::accepted(raw::line_part(day, k, &mut at, &mut length))?;

@@ -36,7 +36,7 @@ macro_rules! refusals {
 refusals! {
     FileShort = 1, "header", "the file is under 64 bytes";
     LineCount = 2, "header", "the line count is 0 or above 64";
-    Layout = 3, "header", "the header's offsets or length, or the file's length, aren't those of its line count";
+    Layout = 3, "header", "the header's offsets or length, or the file's length, aren't those of its counts of lines and ad hoc records";
     MarketPrice = 4, "market", "a market price or the administered price cap is above 10,000,000 price units";
     MarketMark = 5, "market", "a cap mark or the clawback switch is above 1";
     SideOrAccreditation = 6, "each line", "a line's side is above 1, or its accreditation is 2 to 31 or above 63";
@@ -52,6 +52,9 @@ refusals! {
     NoLine = 16, "view, line part", "the day has no such line";
     NoStep = 17, "view", "the line has no such step";
     LineLength = 18, "cutter", "the line isn't 660 bytes";
+    AdHocCount = 19, "header", "the count of ad hoc records is above 64";
+    AdHocLineOrSchedule = 20, "ad hoc records", "an ad hoc record names a line that the day doesn't have, or a schedule other than 1 to 5";
+    EqualAdHoc = 21, "ad hoc records", "two ad hoc records have the same line, schedule and order number";
 }
 // tools/refusals writes to here.
 

@@ -1,8 +1,8 @@
 //! The binding beside document 01, docs/REFUSALS.md and include/mewikofu.h.
 
 use mewikofu::{
-    cut, line_part, match_place, raw, settle, view, Accreditation, Cut, Excess, Refusal, Side,
-    View, MOST_EXCESS,
+    ad_hoc_records, cut, line_part, match_place, raw, settle, view, with_ad_hoc, Accreditation,
+    AdHoc, Cut, Excess, Refusal, Side, View, AD_HOC_BYTES, MOST_AD_HOC, MOST_EXCESS,
 };
 use std::mem::offset_of;
 
@@ -317,6 +317,110 @@ fn entries_above_the_quantity_limit() {
     assert_eq!(excess(&day), due);
     assert_totals_refused(&with(&[at(operated, 1_001), (operating(2, 1), 0)]));
     assert_totals_refused(&with(&[at(priced, 1_001)]));
+}
+
+/// The record of K10's line for a schedule, from 0, with an order number and a total.
+fn ad_hoc(schedule: usize, order: u32, total: u32) -> AdHoc {
+    AdHoc {
+        line: 0,
+        schedule,
+        order,
+        quantities: [total / 2, total - total / 2, 0, 0, 0],
+    }
+}
+
+/// The row with the highest order number stands for the line's own, which is then not looked at: the book and the views are those of the file with
+/// the row written in.
+#[test]
+fn ad_hoc_rows() {
+    for s in 0..5 {
+        for total in [0, 1_700, 4_000] {
+            let row = ad_hoc(s, u32::MAX, total);
+            let other = ad_hoc(s, 1 << 31, 9_000);
+            let words: Vec<_> = (0..5)
+                .map(|i| (operating(s, i), row.quantities[i]))
+                .collect();
+            let written = k10_with(&words);
+            let wrong_own = k10_with(&[(operating(s, 0), u32::MAX)]);
+            for records in [&[row][..], &[row, other], &[other, row]] {
+                let day = with_ad_hoc(&wrong_own, records).unwrap();
+                assert_eq!(settle(&day), settle(&written));
+                for step in [0, 1] {
+                    assert_eq!(view(&day, 0, step), view(&written, 0, step));
+                }
+                assert_eq!(ad_hoc_records(&day).unwrap(), records);
+                let part = line_part(&day, 0).unwrap();
+                assert_eq!(part, &wrong_own[64..]);
+                assert_eq!(cut(part), Err(Refusal::Totals));
+            }
+        }
+        let day = with_ad_hoc(K10, &[ad_hoc(s, 0, 4_001)]).unwrap();
+        assert_eq!(settle(&day), Err(Refusal::Totals));
+    }
+}
+
+/// Records are read and written; files in the layout without them and with none are read too.
+#[test]
+fn ad_hoc_layout() {
+    assert_eq!(ad_hoc_records(K10), Ok(Vec::new()));
+    let none = with_ad_hoc(K10, &[]).unwrap();
+    let word = |day: &[u8], place| u32::from_le_bytes(day[4 * place..][..4].try_into().unwrap());
+    let header = |day: &[u8]| -> [u32; 6] { std::array::from_fn(|place| word(day, place)) };
+    assert_eq!(header(&none), [1, 24, 72, 732, 0, 732]);
+    assert_eq!((&none[24..], none.len()), (&K10[16..], 732));
+    assert_eq!(settle(&none), settle(K10));
+    assert_eq!(ad_hoc_records(&none), Ok(Vec::new()));
+    let one = with_ad_hoc(&none, &[ad_hoc(1, 7, 2_500)]).unwrap();
+    let two = with_ad_hoc(&one, &[ad_hoc(2, 7, 2_500)]).unwrap();
+    assert_eq!(header(&two), [1, 24, 72, 796, 2, 732]);
+    assert_eq!(two[..732][24..], one[..732][24..]);
+    assert_eq!(ad_hoc_records(&two).unwrap().len(), 2);
+    assert_eq!(
+        with_ad_hoc(REFUSED, &[]).map(|day| settle(&day)),
+        Ok(Err(Refusal::Prices))
+    );
+    assert_eq!(with_ad_hoc(&K10[..723], &[]), Err(Refusal::Layout));
+}
+
+/// Refusals 19, 20 and 21.
+#[test]
+fn refused_ad_hoc_records() {
+    let most: Vec<AdHoc> = (0..64).map(|order| ad_hoc(1, order, 2_000)).collect();
+    let day = with_ad_hoc(K10, &most).unwrap();
+    assert!(settle(&day).is_ok());
+    let day = with_ad_hoc(&day, &most[..1]).unwrap();
+    assert_eq!(settle(&day), Err(Refusal::AdHocCount));
+    assert_eq!(view(&day, 0, 0), Err(Refusal::AdHocCount));
+    assert_eq!(line_part(&day, 0), Err(Refusal::AdHocCount));
+    assert_eq!(ad_hoc_records(&day), Err(Refusal::AdHocCount));
+    let twice = with_ad_hoc(K10, &[most[3], most[4], most[3]]).unwrap();
+    assert_eq!(settle(&twice), Err(Refusal::EqualAdHoc));
+    assert_eq!(ad_hoc_records(&twice).unwrap().len(), 3);
+    // The record's line stands at byte 732, its schedule at byte 736.
+    let one = with_ad_hoc(K10, &most[..1]).unwrap();
+    assert!(settle(&one).is_ok());
+    for (place, value) in [(732, 1), (735, 1), (736, 0), (736, 6), (739, 1)] {
+        let mut day = one.clone();
+        day[place] = value;
+        assert_eq!(settle(&day), Err(Refusal::AdHocLineOrSchedule));
+        assert_eq!(ad_hoc_records(&day), Err(Refusal::AdHocLineOrSchedule));
+    }
+    let bytes = [&[0; 4][..], &[9, 0, 0, 0], &[0; 24]].concat();
+    assert_eq!(AdHoc::of_bytes(&bytes.try_into().unwrap()), None);
+}
+
+/// The header's constants of ad hoc records.
+#[test]
+fn ad_hoc_constants() {
+    for (name, value) in [
+        ("MOST_AD_HOC", MOST_AD_HOC),
+        ("AD_HOC_BYTES", AD_HOC_BYTES),
+        ("AD_HOC_MARKET_AT", 24),
+        ("AD_HOC_LINES_AT", 72),
+    ] {
+        let defined = format!("\n#define MEWIKOFU_{name} {value}\n");
+        assert!(HEADER.contains(&defined), "{defined}");
+    }
 }
 
 /// Name and place of each field of a struct of the header, by the sizes that it declares.

@@ -5,10 +5,11 @@ use mewikofu::{
     book_bytes, cut, line_part, raw, settle, settle_into, view, Cut, Refusal, Side, View,
 };
 use reference::generate::{
-    damaged_day, excess_day, excess_fault_day, over_delivery_day, pulled_day, pulled_fault_day,
-    set_day, set_fault_day, valid_day,
+    ad_hoc_damaged_day, ad_hoc_day, ad_hoc_fault_day, damaged_day, excess_day, excess_fault_day,
+    over_delivery_day, pulled_day, pulled_fault_day, set_day, set_fault_day, small_ad_hoc_day,
+    valid_day,
 };
-use reference::layout::{day_length, signed, word, LINE_BYTES, MOST_LINES};
+use reference::layout::{signed, word, Day, LINE_BYTES, MOST_LINES};
 
 /// Places beyond every line and step.
 const HUGE: [usize; 4] = [1 << 32, (1 << 32) + 1, usize::MAX / 660, usize::MAX];
@@ -18,10 +19,11 @@ fn days() -> u64 {
     wanted.map_or(20_000, |wanted| wanted.parse().expect("a number of days"))
 }
 
-/// Seeds in a row; every second day is damaged, of eight days two have accreditation by schedule, two pulled bids and two totals above the
-/// greatest break, half of those that aren't damaged with more delivered than scheduled. Boxed, so that memcheck sees a read past the end.
+/// Seeds in a row; every second day is damaged, of ten days two have accreditation by schedule, two pulled bids, two totals above the greatest
+/// break, half of those that aren't damaged with more delivered than scheduled, and two ad hoc records. Boxed, so that memcheck sees a read past
+/// the end.
 fn day(k: u64) -> Box<[u8]> {
-    const DRAWS: [fn(u64) -> Vec<u8>; 8] = [
+    const DRAWS: [fn(u64) -> Vec<u8>; 10] = [
         valid_day,
         damaged_day,
         set_day,
@@ -33,8 +35,33 @@ fn day(k: u64) -> Box<[u8]> {
             _ => over_delivery_day(seed),
         },
         excess_fault_day,
+        |seed| match seed % 2 {
+            0 => ad_hoc_day(seed),
+            _ => small_ad_hoc_day(seed),
+        },
+        |seed| match seed % 2 {
+            0 => ad_hoc_damaged_day(seed),
+            _ => ad_hoc_fault_day(seed),
+        },
     ];
-    DRAWS[k as usize % 8](k / 8).into()
+    DRAWS[k as usize % 10](k / 10).into()
+}
+
+/// Where line j of a day begins, by the layout that its market offset names.
+fn line_at(day: &[u8], j: usize) -> usize {
+    let first = match day.len() >= 8 && word(day, 1) != 16 {
+        true => 72,
+        false => 64,
+    };
+    first + LINE_BYTES * j
+}
+
+/// The lines of a proper header, else as many as the bytes have room for.
+fn lines_of(day: &[u8]) -> usize {
+    match reference::refusal::line_part_number(day, 0) {
+        0 => word(day, 0) as usize,
+        _ => day.len().saturating_sub(line_at(day, 0)) / LINE_BYTES,
+    }
 }
 
 /// Some number below n, from the day's own number.
@@ -50,11 +77,13 @@ fn refused<T>(number: u32) -> Result<T, Refusal> {
     Err(Refusal::of_number(number).expect("a number of the table"))
 }
 
-/// How often each number was answered, and how many views had an excess of operating, pricing and actual, so that the test shows what it reached.
+/// How often each number was answered, how many views had an excess of operating, pricing and actual, and how many were of a line with an ad hoc
+/// row, and with a payment in its schedule, so that the test shows what it reached.
 #[derive(Debug, Default)]
 struct Reached {
     numbers: [u64; Refusal::ALL.len() + 1],
     excess: [u64; 3],
+    ad_hoc: [u64; 2],
 }
 
 #[test]
@@ -64,18 +93,18 @@ fn generated_days() {
     for k in 0..count {
         let day = day(k);
         let before = day.clone();
-        // Whole lines that the bytes have room for; the header may say another count.
-        let lines = day.len().saturating_sub(64) / LINE_BYTES;
+        let lines = lines_of(&day);
         check_settling(k, &day, lines.min(MOST_LINES), &mut reached);
         check_views(k, &day, lines, &mut reached);
         check_parts(k, &day, lines, &mut reached);
         check_cuts(k, &day, lines, &mut reached);
         assert_eq!(day, before, "day {k} was changed");
     }
-    println!("{count} days; answers of each number from 0 on, and views with excess: {reached:?}");
-    // Document 01's numbers. For each of the table fuzzing asks whether the calls of its place answer it.
+    println!("{count} days; answers of each number from 0 on, and views: {reached:?}");
+    // Of the numbers fuzzing asks whether the calls of their places answer them.
     if count >= 1_000 {
-        let mut all = reached.numbers[..=18].iter().chain(&reached.excess);
+        let views = reached.excess.iter().chain(&reached.ad_hoc);
+        let mut all = reached.numbers.iter().chain(views);
         assert!(all.all(|&times| times > 0), "{reached:?}");
     }
 }
@@ -132,8 +161,12 @@ fn check_book(k: u64, day: &[u8], lines: usize) {
 
 fn check_views(k: u64, day: &[u8], lines: usize, reached: &mut Reached) {
     let (line, last) = (some(k, 2, lines), lines.saturating_sub(1));
-    let steps = |line| match day.get(day_length(line)..day_length(line + 1)) {
-        Some(bytes) => reference::cut::cut(bytes).count as usize,
+    // Steps don't depend on operating rows, of which those that aren't in force may be above any limit.
+    let steps = |line| match day.get(line_at(day, line)..line_at(day, line + 1)) {
+        Some(bytes) => {
+            let bytes = [&bytes[..540], &[0; 100], &bytes[640..]].concat();
+            reference::cut::cut(&bytes).count as usize
+        }
         None => 0,
     };
     let huge = HUGE[some(k, 3, 4)];
@@ -149,10 +182,8 @@ fn check_views(k: u64, day: &[u8], lines: usize, reached: &mut Reached) {
     ] {
         let expected = reference::view::view(day, line as u64, step as u64);
         reached.numbers[expected.number as usize] += 1;
-        let excess = &expected.excess;
-        let rows = [excess.operating, excess.pricing, [excess.actual; 5]];
-        for (times, row) in reached.excess.iter_mut().zip(rows) {
-            *times += u64::from(row != [0; 5]);
+        if expected.number == 0 {
+            count_view(day, line, &expected, reached);
         }
         check_view(
             &format!("day {k} line {line} step {step}"),
@@ -162,6 +193,23 @@ fn check_views(k: u64, day: &[u8], lines: usize, reached: &mut Reached) {
             expected,
         );
     }
+}
+
+/// What an accepted view reached. Of ad hoc rows: a record is for the line viewed; one is for a schedule with a payment.
+fn count_view(day: &[u8], line: usize, view: &reference::view::View, reached: &mut Reached) {
+    let excess = &view.excess;
+    let rows = [excess.operating, excess.pricing, [excess.actual; 5]];
+    for (times, row) in reached.excess.iter_mut().zip(rows) {
+        *times += u64::from(row != [0; 5]);
+    }
+    let day = Day::new(day);
+    let keys = day.records().map(|record| record.key());
+    let of_line = keys.filter(|key| key[0] as usize == line);
+    let payments: Vec<i64> = of_line
+        .map(|key| view.finals[key[1] as usize - 1])
+        .collect();
+    reached.ad_hoc[0] += u64::from(!payments.is_empty());
+    reached.ad_hoc[1] += u64::from(payments.iter().any(|&payment| payment != 0));
 }
 
 /// The C function's answer, with its number, and what the safe one makes of it.
@@ -225,7 +273,7 @@ fn check_parts(k: u64, day: &[u8], lines: usize, reached: &mut Reached) {
 fn check_cuts(k: u64, day: &[u8], lines: usize, reached: &mut Reached) {
     for line in [0, some(k, 6, lines), lines.saturating_sub(1)] {
         for length in [LINE_BYTES, LINE_BYTES - 1, LINE_BYTES + 1] {
-            let start = day_length(line).min(day.len());
+            let start = line_at(day, line).min(day.len());
             let bytes: Box<[u8]> = day[start..(start + length).min(day.len())].into();
             let expected = reference::cut::cut(&bytes);
             reached.numbers[expected.number as usize] += 1;

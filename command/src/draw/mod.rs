@@ -1,4 +1,4 @@
-//! A day as one page of HTML: a table of all lines' payments; of the chosen line its rises and falls as bars with their payments, and its prices.
+//! A day as one page of HTML: a table of all lines' payments; of the chosen line its ad hoc rows, its rises and falls as bars with their payments, and its prices.
 //! It has no script and needs nothing from outside. Where a browser doesn't know `:has`, all lines are shown.
 
 mod axis;
@@ -6,9 +6,11 @@ mod changes;
 mod lines;
 mod markup;
 mod prices;
+mod rows;
 mod settled;
 
 use crate::accreditation;
+use crate::ad_hoc;
 use crate::amounts::{dollars, Energy, MONEY_PLACES, PRICE_PLACES};
 use crate::arguments::Options;
 use crate::excess;
@@ -30,7 +32,7 @@ pub fn run(options: &Options, out: &mut dyn Write) -> Result<Status> {
     if chosen >= day.lines.len() {
         return Err(crate::cut::no_line(&input, chosen));
     }
-    let page = page(&input.name, &input.bytes, &day, chosen)?;
+    let page = page(&input.name, &day, chosen)?;
     out.write_all(page.as_bytes())?;
     Ok(Status::Accepted)
 }
@@ -62,8 +64,8 @@ impl Drawn<'_> {
 }
 
 /// The page of a day on which one of its lines is shown at first. It is made only if its figures are those of the book.
-pub fn page(name: &str, bytes: &[u8], day: &Figures, chosen: usize) -> Result<String> {
-    let cuts = settled::cuts(bytes, day).map_err(|why| {
+pub fn page(name: &str, day: &Figures, chosen: usize) -> Result<String> {
+    let cuts = settled::cuts(day).map_err(|why| {
         Problem::failed(format!(
             "{name}: the page wouldn't be what was settled, so none is drawn: {why}"
         ))
@@ -210,6 +212,7 @@ fn put_line(page: &mut Markup, drawn: &Drawn, k: usize, line: &Line) {
     );
     page.element(&format!("h2 id=\"name-{k}\""), &heading);
     page.element("p", &line_words(drawn, line)).row_end();
+    rows::put(page, drawn, k, line);
     changes::put(page, drawn, k, line);
     prices::put(page, drawn, k, line);
     page.close().row_end();
@@ -229,8 +232,17 @@ fn line_words(drawn: &Drawn, line: &Line) -> String {
     };
     let steps = counted(line.steps.len(), "step");
     let pulled = pulled_sentence(&line.pulled());
+    let rows = ad_hoc_sentence(line);
     let excess = drawn.excess_sentence(line);
-    format!("{accredited}{paid}. {hedge} {steps}.{pulled}{excess}")
+    format!("{accredited}{paid}. {hedge} {steps}.{pulled}{rows}{excess}")
+}
+
+/// In which schedules an ad hoc row is in force, as a sentence; nothing where none is.
+fn ad_hoc_sentence(line: &Line) -> String {
+    match ad_hoc::schedules(&line.ad_hoc) {
+        none if none.is_empty() => none,
+        schedules => format!(" An ad hoc operating row is in force in {schedules}."),
+    }
 }
 
 /// The heading of schedule s, from 0, in a line's table and plots.

@@ -2,7 +2,7 @@
 
 use super::axis::{Along, Prices};
 use super::markup::{at, Markup};
-use super::{schedule_heading, Drawn, Unpaid};
+use super::{ad_hoc_sentence, schedule_heading, Drawn, Unpaid};
 use crate::amounts::{dollars, dollars_alike, PRICE_PLACES};
 use crate::figures::Line;
 use crate::layout::{BySchedule, SCHEDULES};
@@ -26,6 +26,8 @@ struct Plots<'a> {
     end: i64,
     /// Names and values, in MJ, of the line's excesses that aren't 0 in all schedules.
     excesses: Vec<(&'static str, BySchedule<u32>)>,
+    /// Whether a row of an ad hoc record is in force in some schedule.
+    ad_hoc: bool,
     /// Highest and lowest place.
     top: f64,
     bottom: f64,
@@ -61,7 +63,9 @@ impl<'a> Plots<'a> {
         let excess = line.excess();
         let mut excesses = vec![("operating", excess.operating), ("pricing", excess.pricing)];
         excesses.retain(|(_, row)| *row != [0; SCHEDULES]);
-        let top = row_place(usize::from(capped) + excesses.len()) + 1.0;
+        let ad_hoc = line.ad_hoc.iter().any(Option::is_some);
+        let rows = usize::from(capped) + usize::from(ad_hoc) + excesses.len();
+        let top = row_place(rows) + 1.0;
         let bottom = top + HEIGHT;
         let steps = 0..line.steps.len();
         let bids = steps.flat_map(|j| (0..SCHEDULES).map(move |s| (s, j)));
@@ -81,6 +85,7 @@ impl<'a> Plots<'a> {
                 .max()
                 .unwrap_or(0),
             excesses,
+            ad_hoc,
             top,
             bottom,
         }
@@ -93,9 +98,10 @@ impl<'a> Plots<'a> {
         };
         format!(
             "Five plots, one for each schedule: the price of each step along the line's quantity in {}, the market price, \
-             the cap where one applies, and what is constrained on between the two prices. Parts that aren't paid are hatched.{cut}{}{}",
+             the cap where one applies, and what is constrained on between the two prices. Parts that aren't paid are hatched.{cut}{}{}{}",
             self.drawn.energy.name(),
             pulled_sentence(&self.line.pulled()),
+            ad_hoc_sentence(self.line),
             self.drawn.excess_sentence(self.line)
         )
     }
@@ -180,7 +186,7 @@ impl<'a> Plots<'a> {
         page.close();
     }
 
-    /// Market price, cap where it applies, and excess where there is some.
+    /// Market price, cap where it applies, the ad hoc row in force, and excess where there is some.
     fn heading(&self, page: &mut Markup, s: usize, left: f64) {
         let market = &self.drawn.day.market;
         let place = |y: f64, class: &str| {
@@ -195,7 +201,12 @@ impl<'a> Plots<'a> {
             page.element(&place(row_place(0), "cap-words"), &words);
         }
         // Below the cap, also where another schedule has it.
-        let first = usize::from(market.marks.contains(&true));
+        let below_cap = usize::from(market.marks.contains(&true));
+        if let Some(row) = self.line.ad_hoc[s] {
+            let words = format!("ad hoc row, order number {}", row.order);
+            page.element(&place(row_place(below_cap), "row-words"), &words);
+        }
+        let first = below_cap + usize::from(self.ad_hoc);
         for (k, (name, row)) in self.excesses.iter().enumerate() {
             if row[s] > 0 {
                 let words = format!("{name} excess {}", self.drawn.quantity(row[s]));

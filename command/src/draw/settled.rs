@@ -17,11 +17,10 @@ pub fn change(step: &View, s: usize) -> i64 {
 }
 
 /// Each line's steps from the cutter, or what doesn't fit together.
-pub fn cuts(bytes: &[u8], day: &Figures) -> Fits<Vec<Cut>> {
+pub fn cuts(day: &Figures) -> Fits<Vec<Cut>> {
     totals(day)?;
     let cut = |(k, line): (usize, &Line)| {
-        let part = mewikofu::line_part(bytes, k).map_err(|refusal| refusal.to_string())?;
-        let cut = mewikofu::cut(part).map_err(|refusal| refusal.to_string())?;
+        let cut = mewikofu::cut(&line.bytes).map_err(|refusal| refusal.to_string())?;
         payments(line).map_err(|why| format!("line {k}, {why}"))?;
         excess(line).map_err(|why| format!("line {k}, {why}"))?;
         prices(day, line, &cut).map_err(|why| format!("line {k}, {why}"))?;

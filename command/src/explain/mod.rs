@@ -36,8 +36,7 @@ pub fn run(options: &Options, out: &mut dyn Write) -> Result<Status> {
             )));
         }
     }
-    let explained =
-        Explained::new(&input.bytes, &day).map_err(|why| not_settled(&input.name, &why))?;
+    let explained = Explained::new(&day).map_err(|why| not_settled(&input.name, &why))?;
     match options.format {
         Format::Text => out.write_all(words::text(&input.name, &explained, &wanted).as_bytes())?,
         Format::Csv => {
@@ -92,12 +91,11 @@ pub struct Explained<'a> {
 
 impl<'a> Explained<'a> {
     /// Or what doesn't fit together.
-    pub fn new(bytes: &[u8], day: &'a Figures) -> std::result::Result<Explained<'a>, String> {
+    pub fn new(day: &'a Figures) -> std::result::Result<Explained<'a>, String> {
         let pools = Pools::new(day);
         let mut reasons = Vec::new();
         for (k, line) in day.lines.iter().enumerate() {
-            let part = mewikofu::line_part(bytes, k).map_err(|refusal| refusal.to_string())?;
-            let cut = mewikofu::cut(part).map_err(|refusal| refusal.to_string())?;
+            let cut = mewikofu::cut(&line.bytes).map_err(|refusal| refusal.to_string())?;
             let mut sums = [0_i64; SCHEDULES];
             for j in 0..line.steps.len() {
                 for (s, sum) in sums.iter_mut().enumerate() {

@@ -4,7 +4,7 @@ use crate::figures::{Figures, Line};
 use crate::layout::*;
 use crate::output::Unit;
 use crate::settle::side_word;
-use crate::steps::{excess_cells, EXCESS_COLUMNS};
+use crate::steps::{ad_hoc_cell, excess_cells, AD_HOC_COLUMN, EXCESS_COLUMNS};
 use mewikofu::{match_place, Cut, Side, View};
 use serde_json::{json, Value};
 
@@ -446,6 +446,7 @@ pub fn columns(unit: Unit) -> Vec<String> {
         payments,
         vec!["rule".to_string()],
         EXCESS_COLUMNS.map(String::from).to_vec(),
+        vec![AD_HOC_COLUMN.to_string()],
     ]
     .concat()
 }
@@ -484,6 +485,7 @@ impl Reason<'_> {
         );
         row.extend([share, unit.money(self.paid), self.rule.name().to_string()]);
         row.extend(excess_cells(view, s));
+        row.push(ad_hoc_cell(self.own, s));
         row
     }
 
@@ -521,6 +523,7 @@ impl Reason<'_> {
             "t": self.pool.total, "b": self.pool.base(), "share": self.share.map(|share| share.quotient),
             "rule": self.rule.name(), "final": self.paid,
             "operating_excess": view.excess.operating[s], "pricing_excess": view.excess.pricing[s], "actual_excess": view.excess.actual,
+            "ad_hoc_order": self.own.ad_hoc[s].map(|row| row.order),
         })
     }
 }

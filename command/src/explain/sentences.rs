@@ -105,7 +105,19 @@ pub fn quantity_words(reason: &Reason) -> String {
             format!("{msiq} is the lesser of E and schedule {}'s, {}, since the price {not} the market price: {value}", s + 2, gj(view.msiq[s + 1]))
         }
     };
-    format!("Quantities: {allocated}. {agino_words}. {msiq_words}.")
+    let row = ad_hoc_words(reason);
+    format!("Quantities: {allocated}.{row} {agino_words}. {msiq_words}.")
+}
+
+/// Which ad hoc record the operating row is of, and so what the operating total is; nothing where it is the line's own.
+fn ad_hoc_words(reason: &Reason) -> String {
+    match reason.own.ad_hoc[reason.s] {
+        Some(row) => format!(
+            " The operating row is that of the ad hoc record with order number {}.",
+            row.order
+        ),
+        None => String::new(),
+    }
 }
 
 /// What the step has of the line's totals.

@@ -6,6 +6,7 @@ use super::sentences::{
 };
 use super::{totals, Explained, Wanted};
 use crate::accreditation;
+use crate::ad_hoc;
 use crate::amounts::{gj, price};
 use crate::excess;
 use crate::figures::{Figures, Line};
@@ -70,7 +71,7 @@ pub fn text(name: &str, explained: &Explained, wanted: &Wanted) -> String {
                 .iter()
                 .filter(|reason| reason.line == k && wanted.has(reason))
         };
-        // Without a line named, lines that nothing is paid for are left to one sentence, and one for each excess.
+        // Without a line named, lines that nothing is paid for are left to one sentence, and one for their ad hoc rows and excess.
         let shown =
             wanted.line == Some(k) || (wanted.line.is_none() && of_line().any(Reason::is_payment));
         if shown {
@@ -123,8 +124,9 @@ fn put_line(text: &mut Text, k: usize, line: &Line, reasons: &[&Reason], wanted:
     let (participant, point, side) = (entry.participant, entry.point, side_words(entry.side));
     let size = counted(line.steps.len(), "step");
     let pulled = pulled_sentence(&line.pulled());
+    let rows = ad_hoc::sentences(&line.ad_hoc, gj);
     let excess = excess::sentence(line, gj);
-    text.put(0, &format!("Line {k}: participant {participant}, point {point}, {side}, {accredited}, {hedge}, {size}.{pulled}{excess}"));
+    text.put(0, &format!("Line {k}: participant {participant}, point {point}, {side}, {accredited}, {hedge}, {size}.{pulled}{rows}{excess}"));
     if wanted.schedule.is_none() && wanted.step.is_none() {
         let payments: Vec<String> = entry.payments.iter().map(|&one| money(one)).collect();
         let (sum, all) = (sum_of(&payments), entry.payments.iter().sum());
@@ -275,7 +277,11 @@ fn put_rest(text: &mut Text, explained: &Explained, wanted: &Wanted) {
             ),
         );
         for k in unpaid {
-            if let Some(excess) = excess::statement(&day.lines[k], gj) {
+            let line = &day.lines[k];
+            for row in ad_hoc::statements(&line.ad_hoc, gj) {
+                text.put(0, &format!("In line {k}, {row}"));
+            }
+            if let Some(excess) = excess::statement(line, gj) {
                 text.put(0, &format!("In line {k} {excess}"));
             }
         }

@@ -1,7 +1,8 @@
 //! Days as JSON, there and back.
 
-use super::{has_shape, lines, not_said};
+use super::{layout, lines, not_said};
 use crate::accreditation::{named, word_of};
+use crate::ad_hoc::{self, Record};
 use crate::arguments::Options;
 use crate::form::{pulled_hint, Kind};
 use crate::input::read_day;
@@ -19,7 +20,8 @@ type Read<T> = std::result::Result<T, String>;
 pub fn show(options: &Options, out: &mut dyn Write) -> Result<Status> {
     each(&options.files, |file| {
         let input = read_day(file)?;
-        let value = has_shape(&input.bytes).then(|| day_json(&input.name, &input.bytes));
+        let layout = layout(&input.bytes);
+        let value = layout.map(|layout| day_json(&input.name, &input.bytes, &layout));
         match value.filter(|value| make_value(value).as_ref() == Ok(&input.bytes)) {
             Some(value) => put_json(out, &value, options.files.len() == 1),
             None => Err(not_said(&input)),
@@ -28,37 +30,62 @@ pub fn show(options: &Options, out: &mut dyn Write) -> Result<Status> {
 }
 
 /// Quantities in MJ, prices in $0.0001 per GJ. Pricing row s is for the intervals s to 5.
-fn day_json(name: &str, day: &[u8]) -> Value {
-    let five = |place: &dyn Fn(usize) -> usize, bytes: &[u8]| -> Vec<u32> {
-        (0..SCHEDULES).map(|s| word(bytes, place(s))).collect()
-    };
+fn day_json(name: &str, day: &[u8], layout: &Layout) -> Value {
+    let market = layout.market(day);
     let capped: Vec<Value> = (0..SCHEDULES)
-        .map(|s| yes_no(word(day, CAP_MARK + s)))
+        .map(|s| yes_no(word(market, CAP_MARK + s)))
         .collect();
     let market = json!({
-        "price": five(&|s| MARKET_PRICE + s, day), "capped": capped,
-        "apc": word(day, PRICE_CAP), "clawback": yes_no(word(day, CLAWBACK)),
+        "price": five(&|s| MARKET_PRICE + s, market), "capped": capped,
+        "apc": word(market, PRICE_CAP), "clawback": yes_no(word(market, CLAWBACK)),
     });
-    let line = |line: &[u8]| {
-        let bid = |s: usize| -> Vec<Value> {
-            let count = (word(line, count_place(s)) as usize).min(BID_SLOTS);
-            (0..count).map(|k| json!({ "break": word(line, break_place(s, k)), "price": word(line, price_place(s, k)) })).collect()
-        };
-        let pricing = |s: usize| -> Vec<u32> {
-            (s..SCHEDULES)
-                .map(|i| word(line, pricing_place(s, i)))
-                .collect()
-        };
-        json!({
-            "participant": word(line, PARTICIPANT), "point": word(line, POINT), "side": side_name(word(line, SIDE)),
-            "accredited": accredited(word(line, ACCREDITATION)), "hedge": word(line, HEDGE),
-            "bids": (0..SCHEDULES).map(bid).collect::<Vec<_>>(),
-            "pricing": (0..SCHEDULES).map(pricing).collect::<Vec<_>>(),
-            "operating": (0..SCHEDULES).map(|s| five(&|i| operating_place(s, i), line)).collect::<Vec<_>>(),
-            "actual": five(&actual_place, line),
-        })
+    let lines: Vec<Value> = lines(day, layout).map(line_json).collect();
+    let mut value =
+        json!({ "file": name, "price_unit": PRICE_UNIT, "market": market, "lines": lines });
+    if layout.records.is_some() {
+        let records = ad_hoc::records(day, layout);
+        value[AD_HOC] = records.iter().map(record_json).collect();
+    }
+    value
+}
+
+/// The five words that stand so.
+fn five(place: &dyn Fn(usize) -> usize, bytes: &[u8]) -> Vec<u32> {
+    (0..SCHEDULES).map(|s| word(bytes, place(s))).collect()
+}
+
+fn line_json(line: &[u8]) -> Value {
+    let bid = |s: usize| -> Vec<Value> {
+        let count = (word(line, count_place(s)) as usize).min(BID_SLOTS);
+        (0..count).map(|k| json!({ "break": word(line, break_place(s, k)), "price": word(line, price_place(s, k)) })).collect()
     };
-    json!({ "file": name, "price_unit": PRICE_UNIT, "market": market, "lines": lines(day).map(line).collect::<Vec<_>>() })
+    let pricing = |s: usize| -> Vec<u32> {
+        (s..SCHEDULES)
+            .map(|i| word(line, pricing_place(s, i)))
+            .collect()
+    };
+    json!({
+        "participant": word(line, PARTICIPANT), "point": word(line, POINT), "side": side_name(word(line, SIDE)),
+        "accredited": accredited(word(line, ACCREDITATION)), "hedge": word(line, HEDGE),
+        "bids": (0..SCHEDULES).map(bid).collect::<Vec<_>>(),
+        "pricing": (0..SCHEDULES).map(pricing).collect::<Vec<_>>(),
+        "operating": (0..SCHEDULES).map(|s| five(&|i| operating_place(s, i), line)).collect::<Vec<_>>(),
+        "actual": five(&actual_place, line),
+    })
+}
+
+/// The name of the array of ad hoc records; a day without it is in the layout without them.
+const AD_HOC: &str = "ad_hoc";
+
+/// Line from 0, schedule from 1, as in the file.
+fn record_json(record: &Record) -> Value {
+    let Record {
+        line,
+        schedule,
+        order,
+        quantities,
+    } = record;
+    json!({ "line": line, "schedule": schedule, "order": order, "operating": quantities })
 }
 
 const PRICE_UNIT: &str = "$0.0001/GJ";
@@ -90,35 +117,55 @@ fn make_value(value: &Value) -> Read<Vec<u8>> {
         value,
         path: String::new(),
     };
-    let fields = day.fields(&["market", "lines"], &["file", "price_unit"])?;
+    let fields = day.fields(&["market", "lines"], &["file", "price_unit", AD_HOC])?;
     if let Some(unit) = fields.get("price_unit").filter(|unit| **unit != PRICE_UNIT) {
         return Err(format!("price_unit: {unit} isn't \"{PRICE_UNIT}\""));
     }
-    let market = day.part("market");
-    market.fields(&["price", "capped", "apc", "clawback"], &[])?;
     let lines = day.part("lines");
     let count = lines.value.as_array().map_or(0, Vec::len);
     if !(1..=MOST_LINES).contains(&count) {
         return Err(format!("lines: a day has 1 to 64 lines, not {count}"));
     }
-    let mut bytes = vec![0; day_length(count)];
-    put_words(&mut bytes, &header(count));
-    market
-        .part("price")
-        .put_row(&mut bytes, MARKET_PRICE, SCHEDULES, Kind::Price)?;
-    market
-        .part("capped")
-        .put_row(&mut bytes, CAP_MARK, SCHEDULES, Kind::YesNo)?;
-    put_word(&mut bytes, PRICE_CAP, market.part("apc").word(Kind::Price)?);
-    put_word(
-        &mut bytes,
-        CLAWBACK,
-        market.part("clawback").word(Kind::YesNo)?,
-    );
+    let records = match fields.contains_key(AD_HOC) {
+        true => Some(day.part(AD_HOC).records()?),
+        false => None,
+    };
+    let layout = Layout {
+        lines: count,
+        records: records.as_ref().map(Vec::len),
+    };
+    let mut bytes = layout.empty_day();
+    put_market(&mut bytes[layout.market_at()..], &day.part("market"))?;
     for (k, line) in lines.items(count)?.iter().enumerate() {
-        put_line(&mut bytes[day_length(k)..], line)?;
+        put_line(&mut bytes[layout.line_at(k)..], line)?;
+    }
+    for (j, record) in records.iter().flatten().enumerate() {
+        put_record(&mut bytes[layout.record_at(j)..], record)?;
     }
     Ok(bytes)
+}
+
+fn put_market(bytes: &mut [u8], market: &Part) -> Read<()> {
+    market.fields(&["price", "capped", "apc", "clawback"], &[])?;
+    let (price, capped) = (market.part("price"), market.part("capped"));
+    price.put_row(bytes, MARKET_PRICE, SCHEDULES, Kind::Price)?;
+    capped.put_row(bytes, CAP_MARK, SCHEDULES, Kind::YesNo)?;
+    put_word(bytes, PRICE_CAP, market.part("apc").word(Kind::Price)?);
+    put_word(bytes, CLAWBACK, market.part("clawback").word(Kind::YesNo)?);
+    Ok(())
+}
+
+fn put_record(bytes: &mut [u8], record: &Part) -> Read<()> {
+    record.fields(&["line", "schedule", "order", "operating"], &[])?;
+    for (place, name) in [
+        (AD_HOC_LINE, "line"),
+        (AD_HOC_SCHEDULE, "schedule"),
+        (AD_HOC_ORDER, "order"),
+    ] {
+        put_word(bytes, place, record.part(name).word(Kind::Number)?);
+    }
+    let quantities = record.part("operating");
+    quantities.put_row(bytes, AD_HOC_QUANTITIES, SCHEDULES, Kind::Number)
 }
 
 fn put_line(bytes: &mut [u8], line: &Part) -> Read<()> {
@@ -234,6 +281,18 @@ impl<'a> Part<'a> {
                 items.len()
             )),
             None => Err(format!("{}: not an array", self.path)),
+        }
+    }
+
+    /// The items of the array of ad hoc records.
+    fn records(&self) -> Read<Vec<Part<'a>>> {
+        let count = self.value.as_array().map_or(0, Vec::len);
+        match count <= MOST_AD_HOC {
+            true => self.items(count),
+            false => Err(format!(
+                "{}: a day has at most {MOST_AD_HOC} ad hoc records, not {count}",
+                self.path
+            )),
         }
     }
 

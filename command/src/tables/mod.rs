@@ -7,15 +7,19 @@ use crate::input::Input;
 use crate::layout::*;
 use crate::outcome::Problem;
 
-/// Whether a file is a day that can be said as lines: the header's own count and length.
-fn has_shape(day: &[u8]) -> bool {
-    day.len() >= LINES_OFFSET
-        && (1..=MOST_LINES).contains(&(word(day, 0) as usize))
-        && day.len() == day_length(word(day, 0) as usize)
+/// The layout of a day that can be said as lines and ad hoc records: the header's own counts and length.
+fn layout(day: &[u8]) -> Option<Layout> {
+    if day.len() < LEAST_BYTES {
+        return None;
+    }
+    let layout = Layout::named(day);
+    let lines = (1..=MOST_LINES).contains(&layout.lines);
+    let records = layout.record_count() <= MOST_AD_HOC;
+    (lines && records && day.len() == layout.length()).then_some(layout)
 }
 
-fn lines(day: &[u8]) -> impl Iterator<Item = &[u8]> {
-    (0..word(day, 0) as usize).map(|k| line_bytes(day, k))
+fn lines<'a>(day: &'a [u8], layout: &'a Layout) -> impl Iterator<Item = &'a [u8]> {
+    (0..layout.lines).map(|k| layout.line(day, k))
 }
 
 fn not_said(input: &Input) -> Problem {

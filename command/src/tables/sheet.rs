@@ -1,6 +1,7 @@
-//! Days as tables for spreadsheets, there and back: a header row and a row for each line of the day. The market table's values stand on every row alike.
+//! Days as tables for spreadsheets, there and back: a header row and a row for each line of the day, then one for each ad hoc record. The market table's values
+//! stand on every line's row alike.
 
-use super::{has_shape, lines, not_said};
+use super::{layout, lines, not_said};
 use crate::arguments::Options;
 use crate::form::{pulled_hint, Kind, NONE};
 use crate::input::{read_day, Input};
@@ -27,10 +28,42 @@ struct Column {
 enum Place {
     Market(usize),
     Line(usize),
+    Record(usize),
 }
 
+/// What the names of the columns of ad hoc records begin with.
+const AD_HOC: &str = "ad_hoc_";
+
 /// The columns of a day whose bids have at most so many steps.
-fn columns(slots: usize) -> Vec<Column> {
+fn columns(slots: usize, ad_hoc: bool) -> Vec<Column> {
+    let mut columns = line_columns(slots);
+    if ad_hoc {
+        columns.extend(ad_hoc_columns());
+    }
+    columns
+}
+
+fn ad_hoc_columns() -> Vec<Column> {
+    let named = [
+        ("line", AD_HOC_LINE),
+        ("schedule", AD_HOC_SCHEDULE),
+        ("order", AD_HOC_ORDER),
+    ];
+    let named = named.map(|(name, place)| (name.to_string(), place));
+    let quantities =
+        (0..SCHEDULES).map(|i| (format!("operating_{}", i + 1), AD_HOC_QUANTITIES + i));
+    let columns = named.into_iter().chain(quantities);
+    let column = |(name, place): (String, usize)| Column {
+        name: format!("{AD_HOC}{name}"),
+        kind: Kind::Number,
+        place: Place::Record(place),
+        slot: None,
+    };
+    columns.map(column).collect()
+}
+
+/// The columns of market and line.
+fn line_columns(slots: usize) -> Vec<Column> {
     let mut columns = Vec::new();
     let mut add = |name: String, kind, place, slot| {
         columns.push(Column {
@@ -149,9 +182,9 @@ impl Column {
 }
 
 /// The most steps of a bid; at least 1, so that a pulled bid has a cell.
-fn most_slots(day: &[u8]) -> usize {
-    let counts =
-        lines(day).flat_map(|line| (0..SCHEDULES).map(|s| word(line, count_place(s)) as usize));
+fn most_slots(day: &[u8], layout: &Layout) -> usize {
+    let counts = lines(day, layout)
+        .flat_map(|line| (0..SCHEDULES).map(|s| word(line, count_place(s)) as usize));
     counts.max().unwrap_or(0).clamp(1, BID_SLOTS)
 }
 
@@ -160,19 +193,22 @@ pub fn show(options: &Options, out: &mut dyn Write) -> Result<Status> {
     let mut days = Vec::new();
     let read = each(&options.files, |file| {
         let input = read_day(file)?;
-        match has_shape(&input.bytes) {
-            true => days.push(input),
-            false => return Err(not_said(&input)),
+        match layout(&input.bytes) {
+            Some(layout) => days.push((input, layout)),
+            None => return Err(not_said(&input)),
         }
         Ok(())
     })?;
-    let slots = days.iter().map(|input| most_slots(&input.bytes)).max();
-    let columns = columns(slots.unwrap_or(0));
+    let slots = days
+        .iter()
+        .map(|(input, layout)| most_slots(&input.bytes, layout));
+    let ad_hoc = days.iter().any(|(_, layout)| layout.records.is_some());
+    let columns = columns(slots.max().unwrap_or(0), ad_hoc);
     let names = columns.iter().map(|column| column.written(options.unit));
     let names: Vec<String> = ["day".to_string()].into_iter().chain(names).collect();
     let mut table = Table::new(out, &names)?;
-    let shown = each(&days, |input| {
-        let rows = rows(input, &columns, options.unit);
+    let shown = each(&days, |(input, layout)| {
+        let rows = rows(input, layout, &columns, options.unit);
         if make_rows(&names, &rows).as_ref() != Ok(&input.bytes) {
             return Err(not_said(input));
         }
@@ -188,21 +224,26 @@ struct Row {
     cells: Vec<String>,
 }
 
-fn rows(input: &Input, columns: &[Column], unit: Unit) -> Vec<Row> {
-    let cells = |line| row(&input.name, &input.bytes, line, columns, unit);
-    let rows = lines(&input.bytes).zip(2..);
-    rows.map(|(bytes, line)| Row {
-        line,
-        cells: cells(bytes),
-    })
-    .collect()
+fn rows(input: &Input, layout: &Layout, columns: &[Column], unit: Unit) -> Vec<Row> {
+    let (name, day) = (&input.name, &input.bytes);
+    let market = layout.market(day);
+    let lines = lines(day, layout).map(|line| row(name, market, line, columns, unit));
+    let records = (0..layout.record_count()).map(|j| Some(layout.record(day, j)));
+    // A day in the layout with ad hoc records that has none.
+    let none = (layout.records == Some(0)).then_some(None);
+    let records = records
+        .chain(none)
+        .map(|bytes| record_row(name, bytes, columns));
+    let rows = lines.chain(records).zip(2..);
+    rows.map(|(cells, line)| Row { line, cells }).collect()
 }
 
-fn row(name: &str, day: &[u8], line: &[u8], columns: &[Column], unit: Unit) -> Vec<String> {
+fn row(name: &str, market: &[u8], line: &[u8], columns: &[Column], unit: Unit) -> Vec<String> {
     let cell = |column: &Column| {
         let value = match column.place {
-            Place::Market(place) => word(day, place),
+            Place::Market(place) => word(market, place),
             Place::Line(place) => word(line, place),
+            Place::Record(_) => return String::new(),
         };
         match (column.slot, column.kind) {
             (Some((s, 0)), Kind::Number) if word(line, count_place(s)) == 0 => NONE.to_string(),
@@ -211,10 +252,22 @@ fn row(name: &str, day: &[u8], line: &[u8], columns: &[Column], unit: Unit) -> V
             (_, kind) => write_value(kind, value, Unit::Units),
         }
     };
-    [name.to_string()]
-        .into_iter()
-        .chain(columns.iter().map(cell))
-        .collect()
+    named(name, columns.iter().map(cell))
+}
+
+/// The row of an ad hoc record, or of none.
+fn record_row(name: &str, record: Option<&[u8]>, columns: &[Column]) -> Vec<String> {
+    let cell = |column: &Column| match (column.place, record) {
+        (Place::Record(place), Some(record)) => word(record, place).to_string(),
+        (Place::Record(AD_HOC_LINE), None) => NONE.to_string(),
+        _ => String::new(),
+    };
+    named(name, columns.iter().map(cell))
+}
+
+/// The cells after the day's name.
+fn named(name: &str, cells: impl Iterator<Item = String>) -> Vec<String> {
+    [name.to_string()].into_iter().chain(cells).collect()
 }
 
 /// The day that a table says.
@@ -267,46 +320,131 @@ struct Found {
 
 fn make_rows(names: &[String], rows: &[Row]) -> Read<Vec<u8>> {
     let found = find_columns(names)?;
-    let count = rows.len();
-    if !(1..=MOST_LINES).contains(&count) {
+    let (records, lines): (Vec<&Row>, Vec<&Row>) =
+        rows.iter().partition(|row| is_record(&found, &row.cells));
+    let layout = Layout {
+        lines: lines.len(),
+        records: count_records(&found, &records)?,
+    };
+    if !(1..=MOST_LINES).contains(&layout.lines) {
+        let count = layout.lines;
         return Err(format!(
-            "the table has {count} rows below its header; a day has 1 to 64 lines"
+            "the table has {count} rows of lines below its header; a day has 1 to 64 lines"
         ));
     }
-    let mut day = vec![0; day_length(count)];
-    put_words(&mut day, &header(count));
-    for (k, row) in rows.iter().enumerate() {
-        let filled = put_row(&mut day, k, &found, &row.cells)
-            .and_then(|()| put_counts(&mut day[day_length(k)..], &found, &row.cells));
-        filled.map_err(|(name, message)| format!("row {}, {name}: {message}", row.line))?;
+    let mut day = layout.empty_day();
+    let at = |row: &Row, (name, message)| format!("row {}, {name}: {message}", row.line);
+    for (k, row) in lines.iter().enumerate() {
+        let filled = put_row(&mut day, &layout, k, &found, &row.cells)
+            .and_then(|()| put_counts(&mut day[layout.line_at(k)..], &found, &row.cells));
+        filled.map_err(|fault| at(row, fault))?;
+    }
+    for (j, row) in records.iter().enumerate() {
+        let filled = put_record(&mut day[layout.record_at(j)..], &found, &row.cells);
+        filled.map_err(|fault| at(row, fault))?;
     }
     check_day_names(names, rows)?;
     Ok(day)
 }
 
+/// Whether a row is that of an ad hoc record: a cell of one is filled.
+fn is_record(found: &[Found], cells: &[String]) -> bool {
+    record_cells(found, cells).any(|(_, text)| !text.is_empty())
+}
+
+/// The cells of an ad hoc record, with the word places that they are for.
+fn record_cells<'a>(
+    found: &'a [Found],
+    cells: &'a [String],
+) -> impl Iterator<Item = (usize, &'a str)> {
+    found
+        .iter()
+        .filter_map(|Found { column, place }| match column.place {
+            Place::Record(at) => Some((at, cells[(*place)?.0].as_str())),
+            _ => None,
+        })
+}
+
+/// How many ad hoc records the rows are; none where the table has no such row.
+fn count_records(found: &[Found], rows: &[&Row]) -> Read<Option<usize>> {
+    let says_none = |row: &&&Row| {
+        let mut cells = record_cells(found, &row.cells);
+        cells.any(|cell| cell == (AD_HOC_LINE, NONE))
+    };
+    match (rows.len(), rows.iter().find(says_none)) {
+        (0, _) => Ok(None),
+        (1, Some(_)) => Ok(Some(0)),
+        (_, Some(row)) => Err(format!(
+            "row {}, {AD_HOC}line: '{NONE}' stands for no ad hoc record, and the table has another",
+            row.line
+        )),
+        (count, None) if count > MOST_AD_HOC => Err(format!(
+            "the table has {count} rows of ad hoc records; a day has at most {MOST_AD_HOC}"
+        )),
+        (count, None) => Ok(Some(count)),
+    }
+}
+
 /// Column and message.
 type Filled = std::result::Result<(), (String, String)>;
 
+/// The words of an ad hoc record, whose row has no other cell than these and the day's name. With `none` for its line there is no record.
+fn put_record(record: &mut [u8], found: &[Found], cells: &[String]) -> Filled {
+    let none = record.is_empty();
+    for Found { column, place } in found {
+        let Some((place, unit)) = *place else {
+            continue;
+        };
+        let (name, text) = (column.written(unit), &cells[place]);
+        match column.place {
+            Place::Record(AD_HOC_LINE) if none => {}
+            Place::Record(at) if !none => {
+                let value = read_cell(column.kind, unit, text);
+                put_word(record, at, value.map_err(|message| (name, message))?);
+            }
+            _ if text.is_empty() => {}
+            Place::Record(_) => {
+                let rule = format!("with '{NONE}' for the line there is no ad hoc record");
+                return Err((
+                    name,
+                    format!("'{text}' stands where the cell must be empty: {rule}"),
+                ));
+            }
+            _ => {
+                let rule = "the row is that of an ad hoc record";
+                return Err((
+                    name,
+                    format!("'{text}' stands where the cell must be empty: {rule}"),
+                ));
+            }
+        }
+    }
+    Ok(())
+}
+
 /// The words of line k, and of the market with the first line.
-fn put_row(day: &mut [u8], k: usize, found: &[Found], cells: &[String]) -> Filled {
+fn put_row(day: &mut [u8], layout: &Layout, k: usize, found: &[Found], cells: &[String]) -> Filled {
     for Found { column, place } in found {
         let Some((place, unit)) = *place else {
             continue;
         };
         let text = &cells[place];
-        if column.slot.is_some() && (text.is_empty() || column.is_pulled(text)) {
+        let skipped = column.slot.is_some() && (text.is_empty() || column.is_pulled(text));
+        if skipped || matches!(column.place, Place::Record(_)) {
             continue;
         }
         let name = || column.written(unit);
         let value = read_cell(column.kind, unit, text)
             .map_err(|message| (name(), message + &column.pulled_hint()))?;
+        let market = &mut day[layout.market_at()..];
         match column.place {
-            Place::Market(place) if k > 0 && word(day, place) != value => {
+            Place::Market(place) if k > 0 && word(market, place) != value => {
                 let rule = "the market is the same on every row";
                 return Err((name(), format!("'{text}' isn't the first row's; {rule}")));
             }
-            Place::Market(place) => put_word(day, place, value),
-            Place::Line(place) => put_word(&mut day[day_length(k)..], place, value),
+            Place::Market(place) => put_word(market, place, value),
+            Place::Line(place) => put_word(&mut day[layout.line_at(k)..], place, value),
+            Place::Record(_) => {}
         }
     }
     Ok(())
@@ -389,8 +527,9 @@ fn find_columns(names: &[String]) -> Read<Vec<Found>> {
         }
     }
     places.remove("day");
+    let ad_hoc = names.iter().any(|name| name.starts_with(AD_HOC));
     let mut found = Vec::new();
-    for column in columns(BID_SLOTS) {
+    for column in columns(BID_SLOTS, ad_hoc) {
         let mut units = [Unit::Dollars, Unit::Units].into_iter().filter_map(|unit| {
             let place = places.remove(column.written(unit).as_str())?;
             Some((place, unit))

@@ -32,7 +32,8 @@ fn refused(arguments: &[&str], day: &[u8]) -> String {
 fn accepted() {
     let text = run(&["make", "--check"], example_text().as_bytes()).text();
     assert_eq!(text, "standard input: accepted\n");
-    for name in EXAMPLES.iter().filter(|&&name| name != "excess") {
+    let with_excess = ["excess", "ad-hoc"];
+    for name in EXAMPLES.iter().filter(|name| !with_excess.contains(name)) {
         assert_eq!(
             run(&["check"], &example(name)).text(),
             "standard input: accepted\n"
@@ -55,7 +56,7 @@ fn excess_of_accepted_days() {
     // The views of all lines.
     let mut counts = [0; 2];
     let days = (0..40).flat_map(|seed| [excess_day(seed), small_excess_day(seed), valid_day(seed)]);
-    for day in days.chain([example("excess")]) {
+    for day in days.chain(["excess", "ad-hoc"].map(example)) {
         let figures = Figures::new(&day).unwrap();
         let mut expected = String::from("standard input: accepted");
         for (k, line) in figures.lines.iter().enumerate() {
@@ -218,7 +219,7 @@ fn places_values_and_limits() {
         "the most is 4,000 MJ, which is 1,000 MJ above the greatest break of its bids, 3,000 MJ";
     let cases: [(usize, u32, &str); 28] = [
         (0, 65, "the header's line count is 65; it must be 1 to 64"),
-        (1, 20, "the header's offset of the market table is 20; with 1 line it must be 16"),
+        (1, 20, "the header's offset of the market table is 20; it must be 16, or 24 in a file with ad hoc records"),
         (3, 725, "the header's file length is 725; with 1 line it must be 724"),
         (5, 10_000_001, "market price of schedule 2: 10,000,001 ($1,000.0001 per GJ); the most is 10,000,000 ($1,000.0000 per GJ)"),
         (14, 10_000_001, "administered price cap: 10,000,001 ($1,000.0001 per GJ); the most is 10,000,000 ($1,000.0000 per GJ)"),

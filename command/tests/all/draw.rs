@@ -10,8 +10,11 @@ use mewikofu_command::draw::page;
 use mewikofu_command::figures::Figures;
 use mewikofu_command::make::make;
 use mewikofu_command::outcome::Status;
-use reference::generate::{excess_day, small_day, small_excess_day, valid_day};
+use reference::generate::{
+    ad_hoc_day, excess_day, small_ad_hoc_day, small_day, small_excess_day, valid_day,
+};
 use reference::layout::{signed, word, SCHEDULES};
+use reference::line_part::line_part;
 use reference::view::{DayView, View};
 use std::collections::BTreeSet;
 
@@ -23,6 +26,7 @@ pub const EXAMPLES: &[&str] = &[
     "accreditation",
     "pulled",
     "excess",
+    "ad-hoc",
     "winter",
 ];
 
@@ -31,7 +35,7 @@ pub fn example(name: &str) -> Vec<u8> {
 }
 
 pub fn drawn(day: &[u8], line: usize) -> String {
-    page("a day", day, &Figures::new(day).unwrap(), line).unwrap()
+    page("a day", &Figures::new(day).unwrap(), line).unwrap()
 }
 
 /// Example days, and generated ones.
@@ -40,6 +44,7 @@ fn days(count: u64) -> Vec<Vec<u8>> {
     let generated = (0..count).flat_map(|seed| {
         let days = match seed % 5 {
             0 => [excess_day(seed), small_excess_day(seed)],
+            1 => return [ad_hoc_day(seed), small_ad_hoc_day(seed)],
             _ => [valid_day(seed), small_day(seed)],
         };
         let days = match seed % 2 {
@@ -89,7 +94,12 @@ fn steps_of(day: &[u8]) -> Vec<Vec<View>> {
 
 /// A word of a line: 2 side, 3 accreditation, 4 hedge.
 fn line_word(day: &[u8], line: usize, place: usize) -> u32 {
-    word(&day[64 + 660 * line..], place)
+    word(line_part(day, line as u64), place)
+}
+
+/// A word of the market table: 0 to 4 prices, 5 to 9 cap marks, 10 the cap.
+fn market_word(day: &[u8], place: usize) -> u32 {
+    word(&day[word(day, 1) as usize..], place)
 }
 
 /// Whole units of a decimal number with commas, and perhaps $ and a sign, that has so many places.
@@ -388,10 +398,14 @@ impl PriceAxis {
 
 /// How often the price axis of a line is cut: where a bid or the cap lies above or below it, and below where it doesn't begin at 0.
 fn expected_breaks(day: &[u8], line: usize, axis: &PriceAxis) -> usize {
-    let cut = reference::cut::cut(&day[64 + 660 * line..][..660]);
+    // Operating rows that aren't in force may be above the greatest break; ends and prices don't read them.
+    let mut part = line_part(day, line as u64).to_vec();
+    part[540..640].fill(0);
+    let cut = reference::cut::cut(&part);
+    assert_eq!(cut.number, 0);
     let bids = cut.prices.iter().flat_map(|row| &row[..cut.count as usize]);
-    let cap = (9..14).any(|place| word(day, place) == 1);
-    let prices = bids.copied().chain(cap.then_some(word(day, 14)));
+    let cap = (5..10).any(|place| market_word(day, place) == 1);
+    let prices = bids.copied().chain(cap.then_some(market_word(day, 10)));
     let prices: Vec<f64> = prices.map(f64::from).collect();
     let above = prices.iter().any(|&price| price > axis.high);
     let below = axis.low > 0.0 || prices.iter().any(|&price| price < axis.low);
@@ -481,14 +495,14 @@ fn price_plots() {
                     assert!(near(line[0][0].0, left) && near(line[0][1].0, left + PLOT));
                     assert!(axis.fits(price, line[0][0].1), "{class}");
                 };
-                let market = word(&day, 4 + s);
+                let market = market_word(&day, s);
                 across("market", market);
-                match word(&day, 9 + s) {
+                match market_word(&day, 5 + s) {
                     0 => assert!(
                         plot.of_class("cap").is_empty() && plot.of_class("uncapped").is_empty()
                     ),
                     _ => {
-                        across("cap", word(&day, 14));
+                        across("cap", market_word(&day, 10));
                         capped += 1;
                         cut_down += d("uncapped").len();
                     }
@@ -894,7 +908,7 @@ fn only_what_was_settled() {
     for (why, change) in changes {
         let mut figures = Figures::new(&day).unwrap();
         change(&mut figures);
-        let problem = page("w.day", &day, &figures, 0).unwrap_err();
+        let problem = page("w.day", &figures, 0).unwrap_err();
         assert_eq!(problem.status, Status::Failed);
         assert_eq!(
             problem.message,
@@ -925,7 +939,7 @@ fn chosen_line() {
 #[test]
 fn any_name() {
     let day = example("k10");
-    let page = read(&page("<b>&amp;\".day", &day, &Figures::new(&day).unwrap(), 0).unwrap());
+    let page = read(&page("<b>&amp;\".day", &Figures::new(&day).unwrap(), 0).unwrap());
     assert_eq!(page.named("h1")[0].text, "Gas day <b>&amp;\".day");
 }
 

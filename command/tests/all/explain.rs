@@ -38,7 +38,7 @@ fn every_payment() {
     let (mut rounded, mut least) = (0, 0);
     for day in days() {
         let figures = Figures::new(&day).unwrap();
-        let explained = Explained::new(&day, &figures).unwrap();
+        let explained = Explained::new(&figures).unwrap();
         for reason in &explained.reasons {
             *rules.entry(reason.rule.name()).or_insert(0) += 1;
             if let Some(share) = reason.share {
@@ -74,11 +74,9 @@ fn changed_figures_are_found() {
     let fails = |change: &dyn Fn(&mut mewikofu::View)| {
         let mut figures = Figures::new(&day).unwrap();
         change(&mut figures.lines[4].steps[1]);
-        Explained::new(&day, &figures)
-            .err()
-            .expect("the change is found")
+        Explained::new(&figures).err().expect("the change is found")
     };
-    assert!(Explained::new(&day, &Figures::new(&day).unwrap()).is_ok());
+    assert!(Explained::new(&Figures::new(&day).unwrap()).is_ok());
     fails(&|view| view.end += 1);
     fails(&|view| view.width += 1);
     fails(&|view| view.actual += 1);
@@ -114,7 +112,7 @@ fn changed_figures_are_found() {
     assert_eq!(why, words);
     let mut figures = Figures::new(&day).unwrap();
     figures.lines[4].entry.payments[1] += 1;
-    let why = Explained::new(&day, &figures).err().unwrap();
+    let why = Explained::new(&figures).err().unwrap();
     assert!(
         why.starts_with("line 4: the steps' payments add up to "),
         "{why}"
@@ -129,7 +127,7 @@ fn pooled_sentence() {
     let mut told = 0;
     for day in days().take(120) {
         let figures = Figures::new(&day).unwrap();
-        let explained = Explained::new(&day, &figures).unwrap();
+        let explained = Explained::new(&figures).unwrap();
         let Some(reason) = explained.reasons.iter().find(is_pooled) else {
             continue;
         };
@@ -199,7 +197,7 @@ fn pulled_bids() {
     let mut counts = [0; 3];
     for day in days() {
         let figures = Figures::new(&day).unwrap();
-        for reason in &Explained::new(&day, &figures).unwrap().reasons {
+        for reason in &Explained::new(&figures).unwrap().reasons {
             let line = &day[64 + 660 * reason.line..];
             let count = |bid: &usize| word(line, 5 + 23 * bid) as usize;
             let bid = (0..=reason.s).rev().find(|bid| count(bid) > 0).unwrap();
@@ -336,7 +334,13 @@ fn excess_in_tables() {
     let table = run(&["explain", "--csv"], &day).text();
     let ends: Vec<String> = table
         .lines()
-        .map(|row| row.rsplitn(4, ',').take(3).collect::<Vec<_>>().join(" "))
+        .map(|row| {
+            row.rsplitn(5, ',')
+                .skip(1)
+                .take(3)
+                .collect::<Vec<_>>()
+                .join(" ")
+        })
         .collect();
     let heading = "actual_excess pricing_excess operating_excess";
     let rows = ["700 0 0", "700 1 0", "700 1000 0", "700 0 0", "700 0 900"];
@@ -452,7 +456,7 @@ fn falls_with_unpaid_rises() {
     let final_of_0 = small_set_day(11);
     for day in days().step_by(3).take(60).chain([final_of_0]) {
         let figures = Figures::new(&day).unwrap();
-        let explained = Explained::new(&day, &figures).unwrap();
+        let explained = Explained::new(&figures).unwrap();
         for reason in explained.reasons.iter().filter(|reason| reason.fall > 0) {
             let word = word(&day[64 + 660 * reason.line..], 3);
             let accredited = accredited_schedules(word);

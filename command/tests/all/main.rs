@@ -1,5 +1,6 @@
 //! Tests of the command. Expected figures are document 01's and the reference implementation's.
 
+mod ad_hoc;
 mod book;
 mod check;
 mod draw;
@@ -167,7 +168,7 @@ fn k10_each_excess() -> Vec<u8> {
 }
 
 /// Days with the figures of a third implementation, by request.
-const WORKED: [&str; 3] = ["F-2-1", "F-2-2", "F-2-3"];
+const WORKED: [&str; 6] = ["F-2-1", "F-2-2", "F-2-3", "F-5-1", "F-5-2", "F-5-3"];
 
 fn worked(name: &str, ending: &str) -> Vec<u8> {
     stored(&format!("reference/tests/worked/{name}.{ending}"))

@@ -356,7 +356,7 @@ fn wrong_rows() {
         (
             6,
             "[lines]",
-            "unknown section [lines]; there are [header], [market], [line]",
+            "unknown section [lines]; there are [header], [market], [line], [ad hoc]",
         ),
         (6, "[market]", "[market] is repeated; it stands in line 1"),
         (1, "price = 1", "a section comes first, such as [market]"),

@@ -8,12 +8,18 @@ use mewikofu_command::make::make;
 use mewikofu_command::output::Unit;
 use mewikofu_command::show::show;
 use reference::generate::{damaged_day, edge_days, excess_day, valid_day};
-use reference::layout::put_word;
+use reference::layout::{put_word, word};
 use reference::refusal::day_number;
 use std::collections::BTreeSet;
 
+/// In the layout without ad hoc records, or by the header's counts in the one with them.
 fn has_shape(day: &[u8]) -> bool {
-    day.len() >= 64 && (day.len() - 64).is_multiple_of(660) && day.len() <= 65_536
+    let Some(bytes) = day.len().checked_sub(64) else {
+        return false;
+    };
+    let [lines, records] = [0, 4].map(|place| word(day, place) as usize);
+    let has_records = day.len() == 72 + 660 * lines + 32 * records && lines.max(records) <= 99;
+    (bytes.is_multiple_of(660) && bytes <= 660 * 99) || has_records
 }
 
 /// Shows a day in both units, makes it again and compares; a day of another shape isn't shown.
@@ -21,7 +27,6 @@ fn round_trip(day: &[u8]) {
     for unit in [Unit::Units, Unit::Dollars] {
         match show(day, unit) {
             Ok(text) => {
-                assert!(has_shape(day));
                 assert!(make(text.as_bytes()).unwrap() == day, "{text}");
             }
             Err(_) => assert!(!has_shape(day), "{} bytes", day.len()),
@@ -200,7 +205,9 @@ fn files_of_another_shape() {
     let more = [(64 + 660 * 100, "more than 65536 bytes")];
     for (length, size) in cases.into_iter().chain(more) {
         let message = run(&["show"], &vec![0; length]).failure();
-        let shape = "its bytes must be 64 and 660 for each of at most 99 lines";
+        let lines = "660 for each of at most 99 lines";
+        let records = "32 for each of at most 99 ad hoc records";
+        let shape = format!("its bytes must be 64 and {lines}, or 72, {lines} and {records}");
         assert_eq!(
             message,
             format!("a file of {size} can't be shown: {shape}\n")

@@ -251,7 +251,7 @@ fn wrong_tables() {
     let (names, row) = table.trim_end().split_once('\n').unwrap();
     assert_eq!(
         message(names),
-        "the table has 0 rows below its header; a day has 1 to 64 lines\n"
+        "the table has 0 rows of lines below its header; a day has 1 to 64 lines\n"
     );
     assert_eq!(message(""), "the table has no header row\n");
     let other = row.replacen(",7,3,", ",8,3,", 1);

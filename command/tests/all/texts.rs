@@ -22,7 +22,14 @@ fn kept_reports() {
             kept(&format!("examples/{name}.report"))
         );
     }
-    for name in ["rules", "accreditation", "pulled", "excess", "winter"] {
+    for name in [
+        "rules",
+        "accreditation",
+        "pulled",
+        "excess",
+        "ad-hoc",
+        "winter",
+    ] {
         let steps = run(&["steps"], &stored(&format!("examples/{name}.day"))).text();
         assert_eq!(steps, kept(&format!("examples/{name}.steps")));
     }
@@ -36,7 +43,7 @@ fn kept_reports() {
     );
 }
 
-/// Figures of a third implementation, with totals above the greatest break.
+/// Figures of a third implementation, with totals above the greatest break and with ad hoc records.
 #[test]
 fn worked_days() {
     for name in WORKED {

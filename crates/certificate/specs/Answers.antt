@@ -4,29 +4,22 @@ use native.Mathlib.Omega.{arith}
 use mathlib.Core.Path.{_≡_, refl, _∙_}
 use mathlib.Core.List.{List}
 use mathlib.Core.Bool.{Bool, true, false, cond}
-use lib.ListN.{length, getD, length-take, length-drop}
+use lib.ListN.{length, getD}
 use lib.Dec.{ltb}
 use borrow.Author.Tests.{lt-leb, le-leb, le-ltb, ltb-true}
 use Rattle.rules.specs.Fold.{before, _orElse_}
 use Rattle.rules.specs.Layout.{lineCount, lineAt}
 use Rattle.rules.specs.Steps.{ends, stepCount, upperEnd, lowerEnd}
-use Rattle.rules.specs.Refusals.{dayFault, cutFault, viewFault, settleFault, bookLength}
-use Rattle.rules.specs.Cutting.{cutOf, cutAnswer, stepPlaces}
+use Rattle.rules.specs.Refusals.{dayFault, viewFault, settleFault, bookLength}
+use Rattle.rules.specs.Cutting.{cutOf, stepPlaces}
 use Rattle.rules.specs.Matching.{matchesOf, matched, tenMatches}
 use Rattle.rules.specs.Viewing.{viewOf, viewRefused, viewAnswer}
 use Rattle.rules.specs.declared.View.{View}
-use Rattle.laws.specs.Accepted.{AcceptedDay, accepted-day}
 use Rattle.laws.specs.Folds.{refuse-false, refuse-true}
 use Rattle.cutter.specs.Arrays.{padded-at}
 use Rattle.cutter.specs.Certificate.{endAt, widthAt}
 use Rattle.step_inputs.specs.Ends.{width}
 use Rattle.certificate.specs.Certificate.{matchesBefore, matchIn}
-
--- a line of an accepted day has its 660 bytes
-line-length : (d : List ℕ) → AcceptedDay d → (k : ℕ) → k < lineCount d → length (lineAt d k) ≡ 660
-line-length d a k l =
-    let e = a .header .length-is in
-    simp (length-take, length-drop) (omega arith)
 
 -- the answers of an accepted day are the whole ones
 module _ (d : List ℕ) (h : dayFault d ≡ 0) where
@@ -39,12 +32,6 @@ module _ (d : List ℕ) (h : dayFault d ≡ 0) where
   unfolding viewAnswer viewFault viewRefused _orElse_
   view-past k j l g =
       rw (h, lt-leb (lineCount d) k l, le-leb (stepCount (lineAt d k)) j g, refuse-false 16, refuse-true 17)
-
-  pub cut-whole : (k : ℕ) → k < lineCount d → cutAnswer (lineAt d k) ≡ cutOf (lineAt d k)
-  unfolding cutAnswer cutFault _orElse_
-  cut-whole k l =
-      let a = accepted-day d h in
-      rw (line-length d a k l, a .line-fault k l, refuse-false 18)
 
   pub settle-taken : (b : List ℕ) → bookLength (lineCount d) ≤ length b → settleFault d (length b) ≡ 0
   unfolding settleFault _orElse_

@@ -1,7 +1,8 @@
 -- The certificate: a day with its quantities within M (Within), demand 3 as one statement (Certificate), what the entry points answer
--- (Answers), that the excess is neither constrained on nor paid (Excess), and the proof.
+-- (Answers), which lines the cutter refuses (Refused), that the excess is neither constrained on nor paid (Excess), and the proof.
 pub mod Within
 pub mod Certificate
 pub mod Answers
+pub mod Refused
 pub mod Excess
 pub mod Proof

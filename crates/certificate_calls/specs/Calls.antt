@@ -1,5 +1,5 @@
 -- The certificate of what the entry points answer: from the number 0 of settling, or of the view, alone.
-use Prim.Native.Nat.{ℕ, zero, suc, _<_}
+use Prim.Native.Nat.{ℕ, zero, suc, _≤_, _<_}
 use native.Mathlib.Omega.{arith}
 use mathlib.Core.Path.{_≡_, refl, sym, _∙_, ap}
 use mathlib.Core.List.{List}
@@ -11,7 +11,7 @@ use Rattle.rules.specs.Fold.{refuse, _orElse_}
 use Rattle.rules.specs.Layout.{lineCount, lineAt}
 use Rattle.rules.specs.Steps.{stepCount}
 use Rattle.rules.specs.Refusals.{headerFault, dayFault, settleFault, viewFault, bookLength, linePartFault, linePart}
-use Rattle.rules.specs.Cutting.{cutOf, cutAnswer}
+use Rattle.rules.specs.Cutting.{cutAnswer}
 use Rattle.rules.specs.Viewing.{viewOf, viewRefused, viewAnswer}
 use Rattle.rules.specs.Book.{bookAfter}
 use Rattle.rules.specs.declared.View.{View}
@@ -21,8 +21,8 @@ use Rattle.laws.specs.Accepted.{accepted-day, accepted-line-at}
 use Rattle.cutter.specs.Ends.{count-most}
 use Rattle.cutter.specs.Certificate.{endAt}
 use Rattle.certificate.specs.Certificate.{Certified}
-use Rattle.certificate.specs.Answers.{cut-whole}
-use Rattle.certificate.specs.Proof.{certified}
+use Rattle.book_layout.specs.Framing.{bookCount}
+use Rattle.certificate.specs.Proof.{certified, book-counts}
 
 -- the cutter's answer for the bytes of line k
 unfoldable pub lineCut : List ℕ → ℕ → Cut
@@ -64,21 +64,27 @@ viewed d k j v e z =
     }
 
 -- any book that is long enough will do
-pub day-certified : (d : List ℕ) → dayFault d ≡ 0 → CertifiedDay d (bookAfter d (replicate (bookLength (lineCount d)) 0))
+abbrev pub someBook : List ℕ → List ℕ
+someBook d = bookAfter d (replicate (bookLength (lineCount d)) 0)
+
+room : (d : List ℕ) → bookLength (lineCount d) ≤ length {A = ℕ} (replicate (bookLength (lineCount d)) 0)
+room d = omega (arith, length-replicate {A = ℕ} (bookLength (lineCount d)) 0)
+
+pub day-certified : (d : List ℕ) → dayFault d ≡ 0 → CertifiedDay d (someBook d)
 unfolding lineCut
 day-certified d h =
-    let b : List ℕ = replicate (bookLength (lineCount d)) 0 in
-    certified d b (bookAfter d b) (viewAnswer d) (λ i. cutAnswer (lineAt d i)) h (omega (arith, length-replicate {A = ℕ} (bookLength (lineCount d)) 0)) refl (λ i m. refl) (λ i. refl)
+    certified d (replicate (bookLength (lineCount d)) 0) (someBook d) (viewAnswer d) (λ i. cutAnswer (lineAt d i)) h (room d) refl
+    (λ i m. refl) (λ i. refl)
 
--- the cutter counts the step
-pub count-there : (d : List ℕ) (k j : ℕ) → Viewed d k j → j < lineCut d k .count
-unfolding lineCut cutOf
-count-there d k j t =
-    let e : lineCut d k .count ≡ stepCount (lineAt d k) = ap (λ (x : Cut). x .count) (cut-whole d (t .accepted) k (t .line)) in
-    omega (arith, t .step)
+-- the book counts the line's steps
+pub counts-there : (d : List ℕ) → dayFault d ≡ 0 → (k : ℕ) → k < lineCount d → bookCount (someBook d) k ≡ stepCount (lineAt d k)
+counts-there d h k l = book-counts d (replicate (bookLength (lineCount d)) 0) h (room d) k l
+
+pub count-there : (d : List ℕ) (k j : ℕ) → Viewed d k j → j < bookCount (someBook d) k
+count-there d k j t = omega (arith, counts-there d (t .accepted) k (t .line), t .step)
 
 -- the part that is lent is the line
-part-there : (d : List ℕ) (k : ℕ) → dayFault d ≡ 0 → k < lineCount d → linePart d k ≡ lineAt d k
+pub part-there : (d : List ℕ) (k : ℕ) → dayFault d ≡ 0 → k < lineCount d → linePart d k ≡ lineAt d k
 unfolding linePart linePartFault dayFault _orElse_
 part-there d k h l =
     let header : headerFault d ≡ 0 = orElse-both (headerFault d) _ h .left in
@@ -95,9 +101,17 @@ module _ (d : List ℕ) (k j : ℕ) (v : View) (p : List ℕ) (c : Cut) (ve : v 
   pub step-few : j < 56
   step-few = omega (arith, there .step, count-most (lineAt d k) (accepted-line-at d (accepted-day d (there .accepted)) k (there .line)))
 
-  pub same-end : getD (c .ends) j 0 ≡ v .end
+  -- the cutter accepts the line, or refuses it with 12
+  pub refused-twelve : (c .number ≡ 0 → ⊥) → c .number ≡ 12
+  refused-twelve n =
+      let e : c .number ≡ lineCut d k .number = ap (λ (x : Cut). x .number) own in
+      e ∙ day-certified d (there .accepted) .cut-twelve k (there .line) (λ g. n (e ∙ g))
+
+  pub same-end : c .number ≡ 0 → getD (c .ends) j 0 ≡ v .end
   unfolding endAt
-  same-end =
+  same-end n =
+      let taken : lineCut d k .number ≡ 0 = sym (ap (λ (x : Cut). x .number) own) ∙ n in
+      let count = day-certified d (there .accepted) .same-count k (there .line) taken in
       ap (λ (x : Cut). getD (x .ends) j 0) own
-      ∙ day-certified d (there .accepted) .same-end k j (there .line) (count-there d k j there)
+      ∙ day-certified d (there .accepted) .same-end k j (there .line) taken (omega (arith, count, count-there d k j there))
       ∙ sym (ap (λ (u : View). u .end) ve)

@@ -3,31 +3,35 @@
 use Prim.Native.Nat.{ℕ, zero, suc, _+_, _^_, _≤_, _<_}
 use native.Mathlib.Omega.{arith}
 use native.Mathlib.Decide.{decLt}
-use mathlib.Core.Path.{_≡_, refl, sym, _∙_, ap}
+use mathlib.Core.Path.{_≡_, refl, sym, _∙_, ap, subst}
 use mathlib.Core.List.{List}
 use mathlib.Core.Bool.{Bool, true, false, cond}
 use lib.ListN.{replicate}
 use lib.Dec.{eqb, leb, eqb·suc-zero}
 use borrow.Author.Tests.{eq-eqb, ne-eqb, leb-false, lt-leb}
 use Rattle.rules.specs.Fold.{refuse, _orElse_, sumTo, five, at}
-use Rattle.rules.specs.Layout.{lineCount, lineAt, operatingTable}
+use Rattle.rules.specs.Layout.{lineCount, lineAt}
 use Rattle.rules.specs.Steps.{greatestBreak, stepCount}
-use Rattle.rules.specs.Quantities.{pricingTotal, operatingTotal, effectiveActual}
-use Rattle.rules.specs.Refusals.{dayFault, viewFault, bookLength, linePart}
+use Rattle.rules.specs.Quantities.{pricingTotal}
+use Rattle.rules.specs.InForce.{tableInForce, operatingTotal, effectiveActual}
+use Rattle.rules.specs.Refusals.{dayFault, viewFault, linePart}
 use Rattle.rules.specs.Payments.{excessOf, noExcess}
-use Rattle.rules.specs.Cutting.{cutAnswer}
+use Rattle.rules.specs.Cutting.{cutOf}
 use Rattle.rules.specs.Viewing.{viewOf, viewRefused, viewAnswer}
-use Rattle.rules.specs.Book.{bookAfter}
 use Rattle.rules.specs.declared.View.{View}
 use Rattle.rules.specs.declared.Excess.{Excess}
 use Rattle.rules.specs.declared.Cut.{Cut}
-use Rattle.laws.specs.Accepted.{AcceptedLine, accepted-day, accepted-line-at}
+use Rattle.laws.specs.Accepted.{AcceptedLine, accepted-day, accepted-line-at, accepted-line-with}
 use Rattle.laws.specs.Folds.{sum-suc, sum-more, at-five}
 use Rattle.numbers.specs.Fives.{five-same}
 use Rattle.cutter.specs.Ends.{count-some, most-limit}
 use Rattle.step_inputs.specs.Steps.{actual-most}
 use Rattle.certificate_calls.specs.declared.line_sums.LineSums.{LineSums}
-use Rattle.certificate_calls.specs.Calls.{lineCut, CertifiedDay, day-certified, count-there, there, own}
+use Rattle.certificate.specs.Certificate.{CertifiedSteps}
+use Rattle.certificate.specs.Refused.{line-length}
+use Rattle.book_layout.specs.Framing.{bookCount}
+use Rattle.cutter_cursors.specs.Sweep.{Line}
+use Rattle.certificate_calls.specs.Calls.{someBook, day-certified, counts-there, count-there, viewed, part-there}
 
 -- settling's faults of the file, then 16
 unfoldable pub sumsFault : List ℕ → ℕ → ℕ
@@ -39,9 +43,9 @@ sumsOf d k =
     record {
       number = 0;
       width = greatestBreak (lineAt d k);
-      actual = effectiveActual (lineAt d k);
+      actual = effectiveActual d k;
       pricing = five (pricingTotal (lineAt d k));
-      operating = five (operatingTotal (lineAt d k));
+      operating = five (operatingTotal d k);
     }
 
 unfoldable pub sumsRefused : ℕ → LineSums
@@ -117,11 +121,11 @@ excess-more : (d : List ℕ) (k n : ℕ) (f x : View → ℕ) → excessTo d k (
 unfolding excessTo
 excess-more d k n f x = omega (arith, figure-more d k n f)
 
--- a line of an accepted day, and how many steps the cutter counts
+-- a line of an accepted day, and how many steps it has
 pub record LineCounted (d : List ℕ) (k n : ℕ) : Type 0 where
   pub accepted : dayFault d ≡ 0
   pub line : k < lineCount d
-  pub count : n ≡ lineCut d k .count
+  pub count : n ≡ stepCount (lineAt d k)
 
 -- the sums below a step's count are those of fewer steps
 sum-part : (n m : ℕ) (f : ℕ → ℕ) → m ≤ n → sumTo m f ≤ sumTo n f
@@ -133,33 +137,36 @@ sum-part (suc n) m f h =
     ]
 
 module _ (d : List ℕ) (k n : ℕ) (c : LineCounted d k n) where
-  cert : CertifiedDay d (bookAfter d (replicate (bookLength (lineCount d)) 0))
-  cert = day-certified d (c .accepted)
+  cert : CertifiedSteps (bookCount (someBook d)) (operatingTotal d) (effectiveActual d) d (someBook d) (viewAnswer d)
+  cert = day-certified d (c .accepted) .views
 
   line : AcceptedLine (lineAt d k)
   line = accepted-line-at d (accepted-day d (c .accepted)) k (c .line)
 
-  -- the cutter counts the first step
-  first-there : 0 < lineCut d k .count
+  -- the book counts these steps, the first among them
+  steps : n ≡ bookCount (someBook d) k
+  steps = c .count ∙ sym (counts-there d (c .accepted) k (c .line))
+
+  first-there : 0 < bookCount (someBook d) k
   first-there =
       count-there d k 0 (record { accepted = c .accepted; line = c .line; step = count-some (lineAt d k) line })
 
   -- by the certificate's clauses `widths`, `pricing-sum`, `operating-sum` and `actual-sum`
   pub widths : figureTo d k n (λ v. v .width) ≡ greatestBreak (lineAt d k)
   unfolding figureTo
-  widths = rw (c .count) (cert .widths k (c .line))
+  widths = rw steps (cert .widths k (c .line))
 
   pub pricing-sum : (s : ℕ) → s < 5 → excessTo d k n (λ v. at (v .pricing) s) (λ v. at (v .excess .pricing) s) ≡ pricingTotal (lineAt d k) s
   unfolding excessTo figureTo
-  pricing-sum s h = rw (c .count) (omega (arith, cert .pricing-sum k 0 s (c .line) first-there h))
+  pricing-sum s h = rw steps (omega (arith, cert .pricing-sum k 0 s (c .line) first-there h))
 
-  pub operating-sum : (s : ℕ) → s < 5 → excessTo d k n (λ v. at (v .operating) s) (λ v. at (v .excess .operating) s) ≡ operatingTotal (lineAt d k) s
+  pub operating-sum : (s : ℕ) → s < 5 → excessTo d k n (λ v. at (v .operating) s) (λ v. at (v .excess .operating) s) ≡ operatingTotal d k s
   unfolding excessTo figureTo
-  operating-sum s h = rw (c .count) (omega (arith, cert .operating-sum k 0 s (c .line) first-there h))
+  operating-sum s h = rw steps (omega (arith, cert .operating-sum k 0 s (c .line) first-there h))
 
-  pub actual-sum : excessTo d k n (λ v. v .actual) (λ v. v .excess .actual) ≡ effectiveActual (lineAt d k)
+  pub actual-sum : excessTo d k n (λ v. v .actual) (λ v. v .excess .actual) ≡ effectiveActual d k
   unfolding excessTo figureTo
-  actual-sum = rw (c .count) (omega (arith, cert .actual-sum k 0 (c .line) first-there))
+  actual-sum = rw steps (omega (arith, cert .actual-sum k 0 (c .line) first-there))
 
   -- no sum of fewer steps passes a word
   figure-fits : (f : View → ℕ) (j : ℕ) → j < n → figureTo d k j f + f (viewAnswer d k j) ≤ figureTo d k n f
@@ -174,17 +181,18 @@ module _ (d : List ℕ) (k n : ℕ) (c : LineCounted d k n) where
   unfolding sumsTo
   addable j a v h ae ve =
       let m = most-limit (lineAt d k) line in
-      let last = line .operating-most 4 (omega arith) in
+      let rows = accepted-line-with d (accepted-day d (c .accepted)) k (c .line) in
+      let last = rows .operating-most 4 (omega arith) in
       rw (ae, ve)
       (record {
         width = omega (arith, figure-fits (λ u. u .width) j h, widths);
-        actual = omega (arith, excess-fits (λ u. u .actual) (λ u. u .excess .actual) j h, actual-sum, actual-most (operatingTable (lineAt d k)) (lineAt d k));
+        actual = omega (arith, excess-fits (λ u. u .actual) (λ u. u .excess .actual) j h, actual-sum, actual-most (tableInForce d k) (lineAt d k));
         pricing =
             λ s g. rw (at-five (λ r. excessTo d k j (λ u. at (u .pricing) r) (λ u. at (u .excess .pricing) r)) 0 s g)
             (omega (arith, excess-fits (λ u. at (u .pricing) s) (λ u. at (u .excess .pricing) s) j h, pricing-sum s g, line .pricing-most s g));
         operating =
             λ s g. rw (at-five (λ r. excessTo d k j (λ u. at (u .operating) r) (λ u. at (u .excess .operating) r)) 0 s g)
-            (omega (arith, excess-fits (λ u. at (u .operating) s) (λ u. at (u .excess .operating) s) j h, operating-sum s g, line .operating-most s g));
+            (omega (arith, excess-fits (λ u. at (u .operating) s) (λ u. at (u .excess .operating) s) j h, operating-sum s g, rows .operating-most s g));
       })
 
   pub sums-all : (j : ℕ) (a : LineSums) → j ≤ n → n ≤ j → a ≡ sumsTo d k j → a ≡ sumsOf d k
@@ -192,7 +200,7 @@ module _ (d : List ℕ) (k n : ℕ) (c : LineCounted d k n) where
   sums-all j a h g ae =
       let e : j ≡ n = omega arith in
       let p = five-same (λ s. excessTo d k n (λ v. at (v .pricing) s) (λ v. at (v .excess .pricing) s)) (pricingTotal (lineAt d k)) pricing-sum in
-      let o = five-same (λ s. excessTo d k n (λ v. at (v .operating) s) (λ v. at (v .excess .operating) s)) (operatingTotal (lineAt d k)) operating-sum in
+      let o = five-same (λ s. excessTo d k n (λ v. at (v .operating) s) (λ v. at (v .excess .operating) s)) (operatingTotal d k) operating-sum in
       ae ∙ rw (e, widths, actual-sum, p, o)
 
 -- the excess of any answer of the view has rows of five
@@ -246,11 +254,23 @@ first-fault d k = fault-by d k (dayFault d) refl (leb (lineCount d) k) refl
 pub first-number : (d : List ℕ) (k : ℕ) (v : View) → v ≡ viewAnswer d k 0 → v .number ≡ sumsFault d k
 first-number d k v e = ap (λ (u : View). u .number) e ∙ answer-number d k 0 ∙ first-fault d k
 
--- the view took the line's first step, and the cutter answered for the part that is lent
-pub counted : (d : List ℕ) (k : ℕ) (v : View) (p : List ℕ) (c : Cut) → v ≡ viewAnswer d k 0 → v .number ≡ 0 → p ≡ linePart d k → c ≡ cutAnswer p → LineCounted d k (c .count)
+-- the view took the line's first step, and the part that is lent was cut
+pub part-line : (d : List ℕ) (k : ℕ) (v : View) (p : List ℕ) → v ≡ viewAnswer d k 0 → v .number ≡ 0 → p ≡ linePart d k → Line p
+part-line d k v p ve z pe =
+    let t = viewed d k 0 v ve z in
+    let a = accepted-day d (t .accepted) in
+    subst Line (sym (pe ∙ part-there d k (t .accepted) (t .line)))
+    (record { long = line-length d a k (t .line); accepted = accepted-line-at d a k (t .line) })
+
+pub counted : (d : List ℕ) (k : ℕ) (v : View) (p : List ℕ) (c : Cut) → v ≡ viewAnswer d k 0 → v .number ≡ 0 → p ≡ linePart d k → c ≡ cutOf p → LineCounted d k (c .count)
+unfolding cutOf
 counted d k v p c ve z pe ce =
-    let t = there d k 0 v p c ve z pe ce in
-    record { accepted = t .accepted; line = t .line; count = ap (λ (x : Cut). x .count) (own d k 0 v p c ve z pe ce) }
+    let t = viewed d k 0 v ve z in
+    record {
+      accepted = t .accepted;
+      line = t .line;
+      count = ap (λ (x : Cut). x .count) ce ∙ ap stepCount (pe ∙ part-there d k (t .accepted) (t .line));
+    }
 
 -- the entry's two answers
 pub sums-refused : (d : List ℕ) (k n : ℕ) (r : LineSums) → n ≡ sumsFault d k → (n ≡ 0 → ⊥) → r ≡ sumsRefused n → r ≡ lineSums d k

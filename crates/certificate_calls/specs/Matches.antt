@@ -17,13 +17,13 @@ module _ (d : List ℕ) (k j : ℕ) (v : View) (e : v ≡ viewAnswer d k j) (z :
   there = viewed d k j v e z
 
   made : (s : ℕ) → s < 5 → matchesMade v s ≡ fall (v .constrained) s
-  made s h = rw e (day-certified d (there .accepted) .falls k j s (there .line) (count-there d k j there) h)
+  made s h = rw e (day-certified d (there .accepted) .views .falls k j s (there .line) (count-there d k j there) h)
 
   taken : (r : ℕ) → r < 5 → matchesWith v r ≤ rise (v .constrained) r
-  taken r h = rw e (day-certified d (there .accepted) .rises k j r (there .line) (count-there d k j there) h)
+  taken r h = rw e (day-certified d (there .accepted) .views .rises k j r (there .line) (count-there d k j there) h)
 
   balance : (s : ℕ) → s < 5 → sumTo (suc s) (rise (v .constrained)) ≡ at (v .constrained) s + sumTo (suc s) (matchesMade v)
-  balance s h = rw e (day-certified d (there .accepted) .balance k j s (there .line) (count-there d k j there) h)
+  balance s h = rw e (day-certified d (there .accepted) .views .balance k j s (there .line) (count-there d k j there) h)
 
   pub falls-matched : FallsMatched (v .constrained) (v .matches)
   unfolding matchesMade matchIn sumTo fall earlier before

@@ -1,6 +1,6 @@
 -- The certificate applied: to K10's day and to worked days, which are accepted, and to a law on the cutter that a buyer would ask for.
 use Prim.Native.Nat.{ℕ, _≤_, _<_}
-use mathlib.Core.Path.{_≡_, refl, _∙_}
+use mathlib.Core.Path.{_≡_, refl, _∙_, ap}
 use mathlib.Core.List.{List}
 use lib.ListN.{length}
 use Rattle.rules.specs.Fold.{sumTo}
@@ -19,7 +19,8 @@ use Rattle.rules.specs.Worked.Reschedule.{rescheduleWords, rescheduleDay}
 use Rattle.rules.specs.Worked.Lemma.{base-2-accepted}
 use Rattle.rules.specs.Worked.Pulled0.{pulled0Words, pulled0Day}
 use Rattle.rules.specs.Worked.Excess0.{excess0Words, excess0Day}
-use Rattle.rules.specs.Worked.HandDays.{reschedule-accepted, pulled-0-accepted, excess-0-accepted}
+use Rattle.rules.specs.Worked.AdHoc0.{adHoc0Words, adHoc0Day}
+use Rattle.rules.specs.Worked.HandDays.{reschedule-accepted, pulled-0-accepted, excess-0-accepted, ad-hoc-0-accepted}
 use Rattle.laws.specs.Folds.{sum-same}
 use Rattle.cutter.specs.Certificate.{widthAt}
 use Rattle.certificate.specs.Certificate.{Certified}
@@ -64,7 +65,21 @@ excess-certified b l =
     certified excess0Day b (bookAfter excess0Day b) (viewAnswer excess0Day) (λ k. cutAnswer (lineAt excess0Day k))
     excess-0-accepted l refl (λ k j. refl) (λ k. refl)
 
--- the cutter alone covers a line: its own widths add up to the greatest break
-pub cutter-covers : (d book : List ℕ) (view : ℕ → ℕ → View) (cut : ℕ → Cut) → Certified d book view cut → (k : ℕ) → k < lineCount d → sumTo (cut k .count) (widthAt (cut k)) ≡ greatestBreak (lineAt d k)
-cutter-covers d book view cut c k l =
-    sum-same (cut k .count) (widthAt (cut k)) (λ j. view k j .width) (λ j g. c .same-width k j l g) ∙ c .widths k l
+-- and one with ad hoc records, on both sides (document 02, F-5; `ad-hoc-0` in rules)
+pub ad-hoc-certified : (b : List ℕ) → 208 ≤ length b → Certified adHoc0Day (bookAfter adHoc0Day b) (viewAnswer adHoc0Day) (λ k. cutAnswer (lineAt adHoc0Day k))
+unfolding adHoc0Words adHoc0Day
+ad-hoc-certified b l =
+    certified adHoc0Day b (bookAfter adHoc0Day b) (viewAnswer adHoc0Day) (λ k. cutAnswer (lineAt adHoc0Day k))
+    ad-hoc-0-accepted l refl (λ k j. refl) (λ k. refl)
+
+-- the cutter refuses its line 0, whose own rows of schedules 2 and 5 are not in force
+pub ad-hoc-line-refused : cutAnswer (lineAt adHoc0Day 0) .number ≡ 12
+unfolding opened adHoc0Words adHoc0Day
+ad-hoc-line-refused = refl
+
+-- the cutter alone covers a line that it accepts: its own widths add up to the greatest break
+pub cutter-covers : (d book : List ℕ) (view : ℕ → ℕ → View) (cut : ℕ → Cut) → Certified d book view cut → (k : ℕ) → k < lineCount d → cut k .number ≡ 0 → sumTo (cut k .count) (widthAt (cut k)) ≡ greatestBreak (lineAt d k)
+cutter-covers d book view cut c k l n =
+    sum-same (cut k .count) (widthAt (cut k)) (λ j. view k j .width) (λ j g. c .same-width k j l n g)
+    ∙ ap (λ (m : ℕ). sumTo m (λ j. view k j .width)) (c .same-count k l n)
+    ∙ c .views .widths k l

@@ -1,6 +1,6 @@
 // A line's widths and quantities added up over its steps, with the excess that no step took, as the step view answers them: the
 // certificate's clauses on quantities, on real calls. The contract says what the sums are: M, the line's totals and its effective actual.
-use cutter::cut;
+use cutter::steps::steps;
 use day_header::line_part;
 use rules::View;
 use view::view;
@@ -95,7 +95,7 @@ fn all_steps(day: &[u8], line: usize, count: usize, first: View) -> LineSums
     sums
 }
 
-// The sums of a line, for any bytes and any number: the steps are those that the cutter counts, the figures those of the view.
+// The sums of a line, for any bytes and any number: the steps are those that settling cuts, the figures those of the view.
 pub fn line_sums(day: &[u8], line: usize) -> LineSums
     ensures { λ r. ⌜ r ≡ lineSums (now (day .entry)) line ⌝ }
 {
@@ -103,6 +103,6 @@ pub fn line_sums(day: &[u8], line: usize) -> LineSums
     if first.number != 0 {
         return refused(first.number);
     }
-    let c = cut(line_part(day, line));
+    let c = steps(line_part(day, line));
     all_steps(day, line, c.count as usize, first)
 }

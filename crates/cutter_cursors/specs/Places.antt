@@ -12,7 +12,7 @@ use Rattle.rules.specs.Layout.{quantityMost, hedge, bidCount, bidBreak}
 use Rattle.rules.specs.Steps.{bidStep, bidMost, greatestBreak}
 use Rattle.rules.specs.Payments.{bit}
 use Rattle.laws.specs.Folds.{most-least}
-use Rattle.laws.specs.Accepted.{AcceptedBid, AcceptedWith}
+use Rattle.laws.specs.Accepted.{AcceptedBid, AcceptedLine}
 use Rattle.cutter_cursors.specs.Search.{First, bid-first, step-is, first-stays, first-moves}
 use Rattle.cutter_cursors.specs.Sweep.{Line, Standing, SweepAt, placeOf, sweepOf, firstPlaces}
 use Rattle.cutter_cursors.specs.declared.cursors.Sweep.{Sweep}
@@ -22,7 +22,7 @@ pub most-of : (w : List ℕ) (m : ℕ) → ((s j : ℕ) → s < 5 → j < bidCou
 unfolding greatestBreak bidMost
 most-of w m h = most-least 5 m (bidMost w) (λ s a. most-least (bidCount w s) m (bidBreak w s) (λ j b. h s j a b))
 
-pub most-limit : {t : List (List ℕ)} (w : List ℕ) → AcceptedWith t w → greatestBreak w ≤ quantityMost
+pub most-limit : (w : List ℕ) → AcceptedLine w → greatestBreak w ≤ quantityMost
 most-limit w h = most-of w quantityMost (λ s j a b. h .bids s a .break-most j b)
 
 pub hedge-limit : {w : List ℕ} → Line w → hedge w ≤ quantityMost

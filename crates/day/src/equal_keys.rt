@@ -4,9 +4,10 @@ use layout::fields::point;
 use layout::fields::side;
 use layout::header::line_of;
 ghost use mathlib.Core.Path.{_≡_};
-ghost use Prim.Native.Nat.{_+_, _*_, _≤_, _<_};
+ghost use Prim.Native.Nat.{_+_, _≤_, _<_};
 ghost use lib.ListN.{length};
 ghost use Rattle.rules.specs.Fold.{first};
+ghost use Rattle.rules.specs.Layout.{linePlace};
 ghost use Rattle.rules.specs.Refusals.{sameKey, keyFault};
 
 // Whether two lines have equal participant, point and side.
@@ -28,7 +29,7 @@ fn same_key(v: &[u8], w: &[u8]) -> bool
 
 // Refusal 14 of line k and those before it. The loop maintains that no line before i has line k's key.
 fn key_number(day: &[u8], k: usize) -> u32
-    requires { ⌜ (k < 64) × (64 + 660 * (k + 1) ≤ length (now day)) ⌝ }
+    requires { ⌜ (64 ≤ length (now day)) × (k < 64) × (linePlace (now day) (k + 1) ≤ length (now day)) ⌝ }
     ensures { λ r. ⌜ r ≡ keyFault (now (day .entry)) k ⌝ }
 {
     let w = line_of(day, k);
@@ -45,7 +46,7 @@ fn key_number(day: &[u8], k: usize) -> u32
 
 // Refusal 14. The loop maintains that no two lines before k have the same key.
 pub fn keys_number(day: &[u8], n: usize) -> u32
-    requires { ⌜ (n ≤ 64) × (64 + 660 * n ≤ length (now day)) ⌝ }
+    requires { ⌜ (64 ≤ length (now day)) × (n ≤ 64) × (linePlace (now day) n ≤ length (now day)) ⌝ }
     ensures { λ r. ⌜ r ≡ first (keyFault (now (day .entry))) n ⌝ }
 {
     let mut k = 0;

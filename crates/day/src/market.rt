@@ -12,12 +12,12 @@ ghost use Rattle.rules.specs.Refusals.{marketPriceFault, markFault, marketFault
 
 // Refusal 4 of the market prices. The loop maintains that no price of a schedule before s is above the limit.
 fn market_prices_number(day: &[u8]) -> u32
-    requires { ⌜ 64 ≤ length (now day) ⌝ }
+    requires { ⌜ 72 ≤ length (now day) ⌝ }
     ensures { λ r. ⌜ r ≡ first (marketPriceFault (now (day .entry))) 5 ⌝ }
 {
     let mut s = 0;
     while s < 5 {
-        let fault = price_refusal(Price::read(day, market_place(s)), 4);
+        let fault = price_refusal(Price::read(day, market_place(day, s)), 4);
         if fault != 0 {
             return fault;
         }
@@ -28,7 +28,7 @@ fn market_prices_number(day: &[u8]) -> u32
 
 // Refusal 5 of the cap marks. The loop maintains that no mark of a schedule before s is above 1.
 fn marks_number(day: &[u8]) -> u32
-    requires { ⌜ 64 ≤ length (now day) ⌝ }
+    requires { ⌜ 72 ≤ length (now day) ⌝ }
     ensures { λ r. ⌜ r ≡ first (markFault (now (day .entry))) 5 ⌝ }
 {
     let mut s = 0;
@@ -43,14 +43,14 @@ fn marks_number(day: &[u8]) -> u32
 
 // Refusals 4 and 5.
 pub fn market_number(day: &[u8]) -> u32
-    requires { ⌜ 64 ≤ length (now day) ⌝ }
+    requires { ⌜ 72 ≤ length (now day) ⌝ }
     ensures { λ r. ⌜ r ≡ marketFault (now (day .entry)) ⌝ }
 {
     let prices = market_prices_number(day);
     if prices != 0 {
         return prices;
     }
-    let cap = price_refusal(Price::read(day, market_place(10)), 4);
+    let cap = price_refusal(Price::read(day, market_place(day, 10)), 4);
     if cap != 0 {
         return cap;
     }

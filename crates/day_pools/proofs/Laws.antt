@@ -5,18 +5,19 @@ use native.Mathlib.Numerals.{add-one}
 use mathlib.Core.Path.{_≡_, sym, _∙_, ap, subst}
 use mathlib.Core.List.{List}
 use lib.ListN.{length, getD}
-use Rattle.rules.specs.Layout.{lineCount, lineAt, side, operatingTable, clawback}
+use Rattle.rules.specs.Layout.{lineCount, linePlace, fileLength, lineAt, side, clawback}
 use lib.Dec.{eqb}
 use mathlib.Core.Bool.{true, false}
 use borrow.Author.Tests.{eq-eqb, ne-eqb}
 use Rattle.rules.specs.Steps.{stepCount, upperEnd, lowerEnd}
 use Rattle.rules.specs.Cutting.{cutOf}
-use Rattle.rules.specs.Refusals.{lineFault, lineFaultWith}
+use Rattle.rules.specs.Refusals.{lineFaultWith}
+use Rattle.rules.specs.InForce.{tableInForce}
 use Rattle.rules.specs.Payments.{Day}
 use Rattle.rules.specs.Days.{stepOf, settledDay}
 use Rattle.rules.specs.declared.Step.{Step}
 use Rattle.rules.specs.declared.Cut.{Cut}
-use Rattle.laws.specs.Accepted.{AcceptedDay, accepted-line, accepted-line-at}
+use Rattle.laws.specs.Accepted.{AcceptedLine, AcceptedDay, accepted-line-at}
 use Rattle.layout.proofs.header.Lent.{line-length}
 use Rattle.cutter_cursors.specs.Sweep.{Line}
 use Rattle.cutter.specs.Ends.{count-most}
@@ -37,21 +38,21 @@ use Rattle.day_pools.specs.Sizes.{steps-addable, lines-addable}
 
 -- line k of an accepted day
 module _ (d : List ℕ) (a : AcceptedDay d) (k : ℕ) (l : k < lineCount d) where
-  pub line-lies : (k < 64) × (64 + 660 * (k + 1) ≤ length d)
-  line-lies = (omega (arith, a .header .count-most), omega (arith, a .header .length-is))
+  pub line-lies : (64 ≤ length d) × (k < 64) × (linePlace d (k + 1) ≤ length d)
+  line-lies = (omega (arith, a .header .length-least), omega (arith, a .header .count-most), omega (arith, a .header .length-is))
 
   pub lent-length : (v : List ℕ) → v ≡ lineAt d k → length v ≡ 660
-  lent-length v e = ap length e ∙ line-length d k (line-lies .1)
+  lent-length v e = ap length e ∙ line-length d k (line-lies .2)
 
-  pub lent-accepted : (v : List ℕ) → v ≡ lineAt d k → lineFault v ≡ 0
-  lent-accepted v e = ap lineFault e ∙ a .line-fault k l
+  -- what its rows in force are read from
+  pub table-lies : (v : List ℕ) → v ≡ lineAt d k → (64 ≤ length d) × (fileLength d ≤ length d) × (length v ≡ 660) × (v ≡ lineAt d k)
+  table-lies v e = (line-lies .0, omega (arith, a .header .length-is), lent-length v e, e)
 
-  pub lent-with : (v : List ℕ) → v ≡ lineAt d k → (tb : List (List ℕ)) → tb ≡ operatingTable v → lineFaultWith tb v ≡ 0
-  unfolding lineFault
-  lent-with v e tb be = ap (λ (z : List (List ℕ)). lineFaultWith z v) be ∙ lent-accepted v e
+  pub lent-with : (v : List ℕ) → v ≡ lineAt d k → (tb : List (List ℕ)) → tb ≡ tableInForce d k → lineFaultWith tb v ≡ 0
+  lent-with v e tb be = rw (e, be) (a .line-fault k l)
 
   pub lent-line : (v : List ℕ) → v ≡ lineAt d k → Line v
-  lent-line v e = record { long = lent-length v e; accepted = accepted-line v (lent-accepted v e) }
+  lent-line v e = record { long = lent-length v e; accepted = subst AcceptedLine (sym e) (accepted-line-at d a k l) }
 
   -- the cutter's answer for it
   module _ (v : List ℕ) (e : v ≡ lineAt d k) (c : Cut) (cut : c ≡ cutOf v) where
@@ -71,14 +72,14 @@ module _ (d : List ℕ) (a : AcceptedDay d) (k : ℕ) (l : k < lineCount d) wher
 
       -- what step j of line k is put together from
       pub step-there : (m : Market) (t : LineTotals) (tb : List (List ℕ)) (lo : ℕ)
-          → m ≡ marketOf d → tb ≡ operatingTable v → t ≡ totalsOf tb v → lo ≡ lowerEnd (lineAt d k) j
+          → m ≡ marketOf d → tb ≡ tableInForce d k → t ≡ totalsOf tb v → lo ≡ lowerEnd (lineAt d k) j
           → StepReady d k m t (c .ends) (c .prices) (c .flags) lo j
       step-there m t tb lo me be te le =
           record {
             accepted = accepted-line-at d a k l;
             step = below;
             market = me;
-            totals = te ∙ ap (λ (z : List (List ℕ)). totalsOf z v) be ∙ ap (λ (z : List ℕ). totalsOf (operatingTable z) z) e;
+            totals = te ∙ ap (λ (z : List (List ℕ)). totalsOf z v) be ∙ ap (totalsOf (tableInForce d k)) e;
             ends = ap (λ (z : Cut). z .ends) own;
             prices = ap (λ (z : Cut). z .prices) own;
             flags = ap (λ (z : Cut). z .flags) own;

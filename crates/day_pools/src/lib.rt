@@ -7,7 +7,7 @@ use crate::window::window_of;
 use layout::fields::side;
 use layout::header::line_count;
 use layout::header::line_of;
-use line_quantities::rows::operating_table;
+use line_quantities::in_force::day_table;
 use step_finals::finals::money_with;
 use step_inputs::inputs::LineTotals;
 use step_inputs::inputs::Market;
@@ -81,7 +81,7 @@ fn line_pool(day: &[u8], k: usize, m: Market) -> SidePool
     ensures { λ r. ⌜ r ≡ linePool (settledDay (now (day .entry))) k ⌝ }
 {
     let line = line_of(day, k);
-    let t = totals_of(line, operating_table(line));
+    let t = totals_of(line, day_table(day, k, line));
     let cut = cutter::steps::steps(line);
     let ends = cut.ends;
     let prices = cut.prices;
@@ -180,7 +180,7 @@ pub fn line_paid(day: &[u8], k: usize, m: Market, p: SidePool) -> LinePaid
         × (r .money ≡ moneyTo (stepCount (lineAt (now (day .entry)) k)) (stepMoney (settledDay (now (day .entry))) k)) ⌝ }
 {
     let line = line_of(day, k);
-    let t = totals_of(line, operating_table(line));
+    let t = totals_of(line, day_table(day, k, line));
     let cut = cutter::steps::steps(line);
     let ends = cut.ends;
     let prices = cut.prices;

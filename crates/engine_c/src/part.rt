@@ -27,7 +27,7 @@ pub extern "C" fn mewikofu_line_part(
         *length = 0;
         return number;
     }
-    *at = line_place(k);
+    *at = line_place(day, k);
     *length = LINE_BYTES;
     0
 }

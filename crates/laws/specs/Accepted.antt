@@ -8,13 +8,16 @@ use lib.ListN.{length}
 use lib.Dec.{eqb, ltb, leb}
 use borrow.Author.Tests.{ltb-false, lt-ltb, leb-false, eq-eqb, eqb-true, eqb-false, not-false}
 use Rattle.rules.specs.Fold.{refuse, first, before}
-use Rattle.rules.specs.Layout.{quantityMost, priceMost, excessMost, lineCount, fileLength}
+use Rattle.rules.specs.Layout.{quantityMost, priceMost, excessMost, lineCount, linesAt, recordsAt, recordCount, fileLength, recordLine, recordSchedule}
 use Rattle.rules.specs.Layout.{marketPrice, capMark, priceCap, clawback, lineAt, side, accreditation, hedge, withdrawal}
 use Rattle.rules.specs.Layout.{bidCount, bidBreak, bidPrice, operatingTable, actualEntry}
 use Rattle.rules.specs.Steps.{greatestBreak}
 use Rattle.rules.specs.Quantities.{pricingTotal, tableTotal}
-use Rattle.rules.specs.Refusals.{headerFault, marketPriceFault, markFault, marketFault, breakFault, outOfOrder, orderFault, priceFault, unusedFault, bidFault}
+use Rattle.rules.specs.Refusals.{headerFaultOf, headerFault, marketPriceFault, markFault, marketFault, breakFault, outOfOrder, orderFault, priceFault, unusedFault, bidFault}
 use Rattle.rules.specs.Refusals.{totalFault, actualFault, headFault, lineFaultWith, lineFault, lineFaultAt, sameKey, pairFault, keyFault, dayFault}
+use Rattle.rules.specs.Refusals.{recordFault, sameRecord, twinFault, recordsFault}
+use Rattle.rules.specs.InForce.{tableInForce}
+use Rattle.laws.specs.Layouts.{lines-at}
 use Rattle.laws.specs.Folds.{refuse-zero, orElse-both, first-at, Both}
 
 -- a test that was not met
@@ -82,19 +85,19 @@ pub record AcceptedHead (w : List ℕ) : Type 0 where
   pub accreditation-most : accreditation w ≤ 63
   pub accreditation-set : 1 < accreditation w → 32 ≤ accreditation w
 
--- one line: refusals 6 to 13, with a table of operating quantities
-pub record AcceptedWith (t : List (List ℕ)) (w : List ℕ) : Type 0 where
+-- one line: refusals 6 to 13, but for operating quantities
+pub record AcceptedLine (w : List ℕ) : Type 0 where
   pub head : AcceptedHead w
   pub bids : (s : ℕ) → s < 5 → AcceptedBid w s
   pub hedge-most : hedge w ≤ greatestBreak w
   pub hedge-withdrawal : withdrawal (side w) ≡ true → hedge w ≡ 0
   pub pricing-most : (s : ℕ) → s < 5 → pricingTotal w s ≤ greatestBreak w + excessMost
-  pub operating-most : (s : ℕ) → s < 5 → tableTotal t s ≤ greatestBreak w + excessMost
   pub actual-most : (i : ℕ) → i < 5 → actualEntry w i ≤ 200000000
 
--- with the line's own
-abbrev pub AcceptedLine : List ℕ → Type 0
-AcceptedLine w = AcceptedWith (operatingTable w) w
+-- with a table of them
+pub record AcceptedWith (t : List (List ℕ)) (w : List ℕ) : Type 0 where
+  pub line : AcceptedLine w
+  pub operating-most : (s : ℕ) → s < 5 → tableTotal t s ≤ greatestBreak w + excessMost
 
 total-both : (t : List (List ℕ)) (w : List ℕ) (s : ℕ) → totalFault t w s ≡ 0
     → Both (refuse 12 (ltb (greatestBreak w + excessMost) (pricingTotal w s))) (refuse 12 (ltb (greatestBreak w + excessMost) (tableTotal t s)))
@@ -126,14 +129,17 @@ accepted-with t w e =
     let b4 = orElse-both _ _ (b3 .right) in
     let b5 = orElse-both _ _ (b4 .right) in
     record {
-      head = accepted-head w (b1 .left);
-      bids = λ s h. accepted-bid w s (first-at _ 5 (b2 .left) s h);
-      hedge-most = at-most 10 (greatestBreak w) (hedge w) (b3 .left);
-      hedge-withdrawal =
-          λ h. eqb-true (hedge w) 0 (not-false (eqb (hedge w) 0) (and-false _ _ (refuse-zero 10 _ (b4 .left)) h));
-      pricing-most = λ s h. at-most 11 _ _ (total-both t w s (first-at _ 5 (b5 .left) s h) .left);
+      line =
+          record {
+            head = accepted-head w (b1 .left);
+            bids = λ s h. accepted-bid w s (first-at _ 5 (b2 .left) s h);
+            hedge-most = at-most 10 (greatestBreak w) (hedge w) (b3 .left);
+            hedge-withdrawal =
+                λ h. eqb-true (hedge w) 0 (not-false (eqb (hedge w) 0) (and-false _ _ (refuse-zero 10 _ (b4 .left)) h));
+            pricing-most = λ s h. at-most 11 _ _ (total-both t w s (first-at _ 5 (b5 .left) s h) .left);
+            actual-most = λ i h. actual-is w i (first-at _ 5 (b5 .right) i h);
+          };
       operating-most = λ s h. at-most 11 _ _ (total-both t w s (first-at _ 5 (b5 .left) s h) .right);
-      actual-most = λ i h. actual-is w i (first-at _ 5 (b5 .right) i h);
     }
 
 -- its bids alone
@@ -143,17 +149,20 @@ accepted-bids t w e = orElse-both _ _ (orElse-both _ _ e .right) .left
 
 pub accepted-line : (w : List ℕ) → lineFault w ≡ 0 → AcceptedLine w
 unfolding lineFault
-accepted-line w e = accepted-with (operatingTable w) w e
+accepted-line w e = accepted-with (operatingTable w) w e .line
 
--- the header: refusals 1 to 3
+-- the header: refusals 1 to 3 and 19
 pub record AcceptedHeader (d : List ℕ) : Type 0 where
-  pub length-least : 64 ≤ length d
+  pub length-least : 72 ≤ length d
   pub count-least : 1 ≤ lineCount d
   pub count-most : lineCount d ≤ 64
-  pub length-is : length d ≡ fileLength (lineCount d)
+  pub lines-least : 64 ≤ linesAt d
+  pub lines-most : linesAt d ≤ 72
+  pub records-most : recordCount d ≤ 64
+  pub length-is : length d ≡ fileLength d
 
 pub accepted-header : (d : List ℕ) → headerFault d ≡ 0 → AcceptedHeader d
-unfolding headerFault
+unfolding headerFaultOf headerFault
 accepted-header d e =
     let b1 = orElse-both _ _ e in
     let b2 = orElse-both _ _ (b1 .right) in
@@ -161,12 +170,19 @@ accepted-header d e =
     let b4 = orElse-both _ _ (b3 .right) in
     let b5 = orElse-both _ _ (b4 .right) in
     let b6 = orElse-both _ _ (b5 .right) in
+    let b7 = orElse-both _ _ (b6 .right) in
+    let b8 = orElse-both _ _ (b7 .right) in
     let none = eqb-false (lineCount d) 0 (refuse-zero 1 _ (b2 .left)) in
+    let same : length d ≡ fileLength d = equal 2 (length d) (fileLength d) (b8 .left) in
+    let place = lines-at d in
     record {
-      length-least = ltb-false (length d) 64 (refuse-zero 0 _ (b1 .left));
+      length-least = omega (arith, place .0);
       count-least = omega arith;
       count-most = at-most 1 64 (lineCount d) (b3 .left);
-      length-is = equal 2 (length d) _ (b6 .right);
+      lines-least = place .0;
+      lines-most = place .1;
+      records-most = at-most 18 64 (recordCount d) (b8 .right);
+      length-is = same;
     }
 
 -- the market table: refusals 4 and 5
@@ -197,14 +213,46 @@ accepted-market d e =
       clawback-most = at-most 4 1 _ (b3 .right);
     }
 
--- a day: refusals 1 to 14
+-- the records: refusals 20 and 21
+pub record AcceptedRecords (d : List ℕ) : Type 0 where
+  pub line-in : (i : ℕ) → i < recordCount d → recordLine d (recordsAt d) i < lineCount d
+  pub schedule-least : (i : ℕ) → i < recordCount d → 1 ≤ recordSchedule d (recordsAt d) i
+  pub schedule-most : (i : ℕ) → i < recordCount d → recordSchedule d (recordsAt d) i ≤ 5
+  pub distinct : (i h : ℕ) → i < recordCount d → h < i → sameRecord d (recordsAt d) h i ≡ false
+
+record-both : (d : List ℕ) (r n i : ℕ) → recordFault d r n i ≡ 0
+    → (recordLine d r i < n) × (1 ≤ recordSchedule d r i) × (recordSchedule d r i ≤ 5)
+unfolding recordFault
+record-both d r n i e =
+    let b1 = orElse-both _ _ e in
+    let b2 = orElse-both _ _ (b1 .right) in
+    let none = eqb-false (recordSchedule d r i) 0 (refuse-zero 19 _ (b2 .left)) in
+    (leb-false _ _ (refuse-zero 19 _ (b1 .left)), omega arith, at-most 19 5 _ (b2 .right))
+
+twin-is : (d : List ℕ) (r i h : ℕ) → h < i → twinFault d r i ≡ 0 → sameRecord d r h i ≡ false
+unfolding twinFault
+twin-is d r i h l e = refuse-zero 20 _ (first-at _ i e h l)
+
+pub accepted-records : (d : List ℕ) → recordsFault d ≡ 0 → AcceptedRecords d
+unfolding recordsFault
+accepted-records d e =
+    let b = orElse-both _ _ e in
+    record {
+      line-in = λ i l. record-both d (recordsAt d) (lineCount d) i (first-at _ (recordCount d) (b .left) i l) .0;
+      schedule-least = λ i l. record-both d (recordsAt d) (lineCount d) i (first-at _ (recordCount d) (b .left) i l) .1;
+      schedule-most = λ i l. record-both d (recordsAt d) (lineCount d) i (first-at _ (recordCount d) (b .left) i l) .2;
+      distinct = λ i h l g. twin-is d (recordsAt d) i h g (first-at _ (recordCount d) (b .right) i l);
+    }
+
+-- a day: refusals 1 to 14 and 19 to 21
 pub record AcceptedDay (d : List ℕ) : Type 0 where
   pub header : AcceptedHeader d
   pub market : AcceptedMarket d
-  pub line-fault : (k : ℕ) → k < lineCount d → lineFault (lineAt d k) ≡ 0
+  pub records : AcceptedRecords d
+  pub line-fault : (k : ℕ) → k < lineCount d → lineFaultWith (tableInForce d k) (lineAt d k) ≡ 0
   pub keys : (k i : ℕ) → k < lineCount d → i < k → sameKey (lineAt d i) (lineAt d k) ≡ false
 
-line-is : (d : List ℕ) (k : ℕ) → lineFaultAt d k ≡ 0 → lineFault (lineAt d k) ≡ 0
+line-is : (d : List ℕ) (k : ℕ) → lineFaultAt d k ≡ 0 → lineFaultWith (tableInForce d k) (lineAt d k) ≡ 0
 unfolding lineFaultAt
 line-is d k e = e
 
@@ -218,12 +266,18 @@ accepted-day d e =
     let b1 = orElse-both _ _ e in
     let b2 = orElse-both _ _ (b1 .right) in
     let b3 = orElse-both _ _ (b2 .right) in
+    let b4 = orElse-both _ _ (b3 .right) in
     record {
       header = accepted-header d (b1 .left);
       market = accepted-market d (b2 .left);
-      line-fault = λ k h. line-is d k (first-at _ (lineCount d) (b3 .left) k h);
-      keys = λ k i h l. key-is d k i l (first-at _ (lineCount d) (b3 .right) k h);
+      records = accepted-records d (b3 .left);
+      line-fault = λ k h. line-is d k (first-at _ (lineCount d) (b4 .left) k h);
+      keys = λ k i h l. key-is d k i l (first-at _ (lineCount d) (b4 .right) k h);
     }
 
+-- line k, with its rows in force
+pub accepted-line-with : (d : List ℕ) → AcceptedDay d → (k : ℕ) → k < lineCount d → AcceptedWith (tableInForce d k) (lineAt d k)
+accepted-line-with d a k h = accepted-with (tableInForce d k) (lineAt d k) (a .line-fault k h)
+
 pub accepted-line-at : (d : List ℕ) → AcceptedDay d → (k : ℕ) → k < lineCount d → AcceptedLine (lineAt d k)
-accepted-line-at d a k h = accepted-line (lineAt d k) (a .line-fault k h)
+accepted-line-at d a k h = accepted-line-with d a k h .line

@@ -12,7 +12,7 @@ use Rattle.rules.specs.Layout.{bidSlots, bidCount, bidPrice}
 use Rattle.rules.specs.Steps.{bidStep, source, lastPrice, price}
 use Rattle.rules.specs.Refusals.{breakFault, priceFault, unusedFault, bidFault}
 use Rattle.laws.specs.Folds.{and-no}
-use Rattle.laws.specs.Accepted.{AcceptedWith}
+use Rattle.laws.specs.Accepted.{AcceptedLine}
 
 -- r is the nearest schedule up to s whose bid has steps: s itself unless its bid was pulled
 pub record Nearest (w : List ℕ) (s r : ℕ) : Type 0 where
@@ -47,7 +47,7 @@ own-nearest w s h =
     rw (source-own w s h) (record { within = omega arith; some = h; pulled = λ t l m. absurd (omega arith) })
 
 -- so it is the nearest
-pub nearest : {t : List (List ℕ)} (w : List ℕ) → AcceptedWith t w → (s : ℕ) → s < 5 → Nearest w s (source w s)
+pub nearest : (w : List ℕ) → AcceptedLine w → (s : ℕ) → s < 5 → Nearest w s (source w s)
 nearest w h zero l = own-nearest w zero (h .bids 0 l .count-first refl)
 nearest w h (suc s) l =
     elim (decLt 0 (bidCount w (suc s))) [

@@ -9,11 +9,13 @@ use lib.Seq.{take-all}
 use lib.Dec.{ltb}
 use borrow.Author.Tests.{lt-ltb, le-ltb}
 use Rattle.rules.specs.Fold.{_orElse_, first}
-use Rattle.rules.specs.Layout.{side, accreditation, bidCount, operatingTable}
+use Rattle.rules.specs.Layout.{side, accreditation, bidCount}
+use Rattle.rules.specs.InForce.{tableWith}
 use Rattle.rules.specs.Refusals.{headFault, breakFault, bidFault, lineFaultWith, lineFault}
 use Rattle.laws.specs.Folds.{stops, passes, ends-at, none-at, part-stops, part-passes, orElse-assoc, fold-stops}
 use Rattle.line_limits.specs.Faults.{hedgeFault, limitsFault}
-use Rattle.line.specs.Parts.{lineFrom}
+use Rattle.laws.specs.InForce.{own-rows}
+use Rattle.line.specs.Parts.{partFrom, lineFrom}
 use Rattle.line_bids.specs.Counts.{countFault}
 use Rattle.line_bids.specs.Slots.{slotsFault}
 
@@ -74,39 +76,43 @@ module _ (w : List ℕ) (s n : ℕ) (count : n ≡ bidCount w s) where
           part-passes _ _ _ c (counted ∙ ap (countFault s) count) few (part-passes _ _ _ 0 (b ∙ ap (first (breakFault w s)) count) refl e)
           ∙ sym (bid-is w s)
 
--- the line, part by part
-line-is : (w : List ℕ) → lineFault w ≡ headFault w orElse (first (bidFault w) 5 orElse limitsFault (operatingTable w) w)
-unfolding lineFault lineFaultWith limitsFault hedgeFault
-line-is w = simp orElse-assoc
+-- the line, part by part, with a table of operating quantities
+line-is : (t : List (List ℕ)) (w : List ℕ) → lineFaultWith t w ≡ headFault w orElse (first (bidFault w) 5 orElse limitsFault t w)
+unfolding lineFaultWith limitsFault hedgeFault
+line-is t w = simp orElse-assoc
 
-module _ (w : List ℕ) (h : ℕ) (head : h ≡ headFault w) where
-  pub line-head : (h ≡ 0 → ⊥) → h ≡ lineFault w
-  line-head n = part-stops _ _ _ head n ∙ sym (line-is w)
+module _ (t : List (List ℕ)) (w : List ℕ) (h : ℕ) (head : h ≡ headFault w) where
+  pub line-head : (h ≡ 0 → ⊥) → h ≡ lineFaultWith t w
+  line-head n = part-stops _ _ _ head n ∙ sym (line-is t w)
 
   module _ (none : h ≡ 0) where
-    pub line-bid : (s x : ℕ) → first (bidFault w) s ≡ 0 → s < 5 → x ≡ bidFault w s → (x ≡ 0 → ⊥) → x ≡ lineFault w
+    pub line-bid : (s x : ℕ) → first (bidFault w) s ≡ 0 → s < 5 → x ≡ bidFault w s → (x ≡ 0 → ⊥) → x ≡ lineFaultWith t w
     line-bid s x p l e n =
-        part-passes _ _ _ h head none (part-stops _ _ _ (fold-stops (bidFault w) 5 s x p l e n) n) ∙ sym (line-is w)
+        part-passes _ _ _ h head none (part-stops _ _ _ (fold-stops (bidFault w) 5 s x p l e n) n) ∙ sym (line-is t w)
 
-    pub line-limits : (x : ℕ) (t : List (List ℕ)) → first (bidFault w) 5 ≡ 0 → t ≡ operatingTable w → x ≡ limitsFault t w → x ≡ lineFault w
-    line-limits x t p o e =
-        part-passes _ _ _ h head none (part-passes _ _ _ 0 (sym p) refl (e ∙ ap (λ (z : List (List ℕ)). limitsFault z w) o)) ∙ sym (line-is w)
+    pub line-limits : (x : ℕ) (o : List (List ℕ)) → first (bidFault w) 5 ≡ 0 → o ≡ t → x ≡ limitsFault o w → x ≡ lineFaultWith t w
+    line-limits x o p oe e =
+        part-passes _ _ _ h head none (part-passes _ _ _ 0 (sym p) refl (e ∙ ap (λ (z : List (List ℕ)). limitsFault z w) oe))
+        ∙ sym (line-is t w)
 
 -- line k among those from byte `at` on: the part of the bytes that the code lends
 module _ (b : List ℕ) (start k : ℕ) where
   abbrev pub lent : List ℕ
   lent = take (start + 660 * k + 660 - (start + 660 * k)) (drop (start + 660 * k) b)
 
-  pub lent-is : (x : ℕ) → x ≡ lineFault lent → x ≡ lineFrom b start k
-  unfolding lineFrom
-  lent-is x e =
+  pub lent-is : (r c x : ℕ) → x ≡ lineFaultWith (tableWith b r c k lent) lent → x ≡ lineFrom b start r c k
+  unfolding lineFrom partFrom
+  lent-is r c x e =
       let size : start + 660 * k + 660 - (start + 660 * k) ≡ 660 = omega arith in
-      e ∙ ap (λ (m : ℕ). lineFault (take m (drop (start + 660 * k) b))) size
+      let line : ℕ → List ℕ = λ m. take m (drop (start + 660 * k) b) in
+      e ∙ ap (λ (m : ℕ). lineFaultWith (tableWith b r c k (line m)) (line m)) size
 
   pub lent-length : (n : ℕ) → k < n → start + 660 * n ≤ length b → length lent ≡ 660
   lent-length n l h = simp (length-take, length-drop) (omega arith)
 
--- a single line
-pub one-line : (w : List ℕ) → length w ≡ 660 → first (lineFrom w 0) 1 ≡ lineFault w
-unfolding first _orElse_ lineFrom
-one-line w h = ap lineFault (take-all 660 w (omega arith))
+-- a single line, with its own rows
+pub one-line : (w : List ℕ) → length w ≡ 660 → first (lineFrom w 0 0 0) 1 ≡ lineFault w
+unfolding first _orElse_ lineFrom partFrom lineFault
+one-line w h =
+    let e : take 660 w ≡ w = take-all 660 w (omega arith) in
+    ap (λ (z : List ℕ). lineFaultWith (tableWith w 0 0 0 z) z) e ∙ ap (λ (t : List (List ℕ)). lineFaultWith t w) (own-rows w 0 0 w)

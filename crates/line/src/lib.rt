@@ -7,7 +7,7 @@ use line_bids::breaks::break_number;
 use line_bids::breaks::count_number;
 use line_bids::prices::slots_number;
 use line_limits::limits_number;
-use line_quantities::rows::operating_table;
+use line_quantities::in_force::table_in_force;
 ghost use mathlib.Core.Path.{_≡_};
 ghost use Prim.Native.Nat.{_+_, _*_, _≤_};
 ghost use lib.ListN.{length};
@@ -36,11 +36,12 @@ pub fn head_number(line: &[u8]) -> u32
     0
 }
 
-// The refusal of `n` lines that stand one after another from byte `at` on: refusals 6 to 13, the first fault met.
+// The refusal of `n` lines that stand one after another from byte `at` on, with the rows in force by `count` records from byte `records`
+// on: refusals 6 to 13, the first fault met.
 // The loops maintain that the lines before k, the bids of line k before s and the breaks of bid s before j have no fault.
-pub fn lines_number(b: &[u8], at: usize, n: usize) -> u32
-    requires { ⌜ (n ≤ 64) × (at + 660 * n ≤ length (now b)) ⌝ }
-    ensures { λ r. ⌜ r ≡ first (lineFrom (now (b .entry)) at) n ⌝ }
+pub fn lines_number(b: &[u8], at: usize, n: usize, records: usize, count: usize) -> u32
+    requires { ⌜ (n ≤ 64) × (at + 660 * n ≤ length (now b)) × (records + 32 * count ≤ length (now b)) ⌝ }
+    ensures { λ r. ⌜ r ≡ first (lineFrom (now (b .entry)) at records count) n ⌝ }
 {
     let mut k = 0;
     'lines: loop {
@@ -70,7 +71,7 @@ pub fn lines_number(b: &[u8], at: usize, n: usize) -> u32
                 break 'lines slots;
             }
         }
-        let limits = limits_number(line, operating_table(line));
+        let limits = limits_number(line, table_in_force(b, records, count, k, line));
         if limits != 0 {
             break 'lines limits;
         }
@@ -78,10 +79,10 @@ pub fn lines_number(b: &[u8], at: usize, n: usize) -> u32
     }
 }
 
-// The refusal of one line: refusals 6 to 13.
+// The refusal of one line with its own rows: refusals 6 to 13.
 pub fn line_number(line: &[u8]) -> u32
     requires { ⌜ length (now line) ≡ 660 ⌝ }
     ensures { λ r. ⌜ r ≡ lineFault (now (line .entry)) ⌝ }
 {
-    lines_number(line, 0, 1)
+    lines_number(line, 0, 1, 0, 0)
 }

@@ -1,2 +1,3 @@
--- Sums of words of a line.
+-- Sums of words of a line, and the places of the records in force.
 pub mod Words
+pub mod Highest

@@ -4,7 +4,8 @@ use mathlib.Core.List.{List}
 use Rattle.rules.specs.Fold.{five}
 use Rattle.rules.specs.Layout.{lineCount, marketPrice, clawback, lineAt, participant, point, side}
 use Rattle.rules.specs.Steps.{greatestBreak, stepCount, upperEnd, lowerEnd, price, flag, capped, paid}
-use Rattle.rules.specs.Quantities.{pricingTotal, operatingTotal, effectiveActual}
+use Rattle.rules.specs.Quantities.{pricingTotal}
+use Rattle.rules.specs.InForce.{operatingTotal, effectiveActual}
 use Rattle.rules.specs.declared.Step.{Step}
 use Rattle.rules.specs.Payments.{bit, Day}
 
@@ -20,8 +21,8 @@ stepOf d k j =
       market = five (marketPrice d);
       paid = five (λ s. bit (paid (lineAt d k) (upperEnd (lineAt d k) j) s));
       pricing = five (pricingTotal (lineAt d k));
-      operating = five (operatingTotal (lineAt d k));
-      actual = effectiveActual (lineAt d k);
+      operating = five (operatingTotal d k);
+      actual = effectiveActual d k;
       most = greatestBreak (lineAt d k);
     }
 

@@ -1,7 +1,8 @@
--- Document 01, "Units and the day file": the limits, words, header, market table and a line's fields.
+-- Document 01, "Units and the day file": the limits, words, header, market table and a line's fields; the second layout and its records by
+-- document 02, F-5.
 use Prim.Native.Nat.{ℕ, zero, suc, _+_, _*_, _-_}
 use mathlib.Core.List.{List}
-use mathlib.Core.Bool.{Bool}
+use mathlib.Core.Bool.{Bool, cond, not}
 use lib.ListN.{getD, take, drop}
 use lib.Dec.{eqb}
 use Rattle.rules.specs.Fold.{five}
@@ -38,24 +39,54 @@ linesOffset d = word d 8
 abbrev pub lengthWord : List ℕ → ℕ
 lengthWord d = word d 12
 
+-- "The file's header gains two words, a count (up to 64) and an offset of ad hoc records" (document 02, F-5)
+abbrev pub countWord : List ℕ → ℕ
+countWord d = word d 16
+
+abbrev pub recordsOffset : List ℕ → ℕ
+recordsOffset d = word d 20
+
 abbrev pub mostLines : ℕ
 mostLines = 64
 
-abbrev pub marketAt : ℕ
-marketAt = 16
-
-abbrev pub linesAt : ℕ
-linesAt = 64
+abbrev pub mostRecords : ℕ
+mostRecords = 64
 
 abbrev pub lineBytes : ℕ
 lineBytes = 660
 
-abbrev pub fileLength : ℕ → ℕ
-fileLength n = linesAt + lineBytes * n
+-- "A record is eight words"
+abbrev pub recordBytes : ℕ
+recordBytes = 32
+
+-- THE LAYOUT of a day file: where its market table, lines and records stand, how many records it has, and its length.
+-- "A market offset of 16 means the old layout"; any other is held to the new one (document 02, F-5)
+unfoldable pub adHoc : List ℕ → Bool
+adHoc d = not (eqb (marketOffset d) 16)
+
+-- "In such a file the market table stands at 24, the lines at 72"
+unfoldable pub marketAt : List ℕ → ℕ
+marketAt d = cond (adHoc d) 24 16
+
+unfoldable pub linesAt : List ℕ → ℕ
+linesAt d = cond (adHoc d) 72 64
+
+abbrev pub linePlace : List ℕ → ℕ → ℕ
+linePlace d k = linesAt d + lineBytes * k
+
+-- "the records after the lines, and the length word covers all"
+abbrev pub recordsAt : List ℕ → ℕ
+recordsAt d = linePlace d (lineCount d)
+
+unfoldable pub recordCount : List ℕ → ℕ
+recordCount d = cond (adHoc d) (countWord d) 0
+
+abbrev pub fileLength : List ℕ → ℕ
+fileLength d = recordsAt d + recordBytes * recordCount d
 
 -- "Market table, 12 words: five market prices, five cap marks (0 or 1), the administered price cap APC, the clawback switch (0 off, 1 on)"
 abbrev pub marketWord : List ℕ → ℕ → ℕ
-marketWord d j = word d (marketAt + 4 * j)
+marketWord d j = word d (marketAt d + 4 * j)
 
 abbrev pub marketPrice : List ℕ → ℕ → ℕ
 marketPrice d s = marketWord d s
@@ -71,7 +102,7 @@ clawback d = marketWord d 11
 
 -- the 660 bytes of line k
 abbrev pub lineAt : List ℕ → ℕ → List ℕ
-lineAt d k = take lineBytes (drop (linesAt + lineBytes * k) d)
+lineAt d k = take lineBytes (drop (linePlace d k) d)
 
 -- "Line, 165 words: participant, point (any value), side (0 injection, 1 withdrawal), accreditation (0 no, 1 yes), hedge"; an accreditation
 -- of 32 to 63 is a set of schedules (document 02, F-7)
@@ -128,3 +159,20 @@ operatingTable w = five (λ s. five (operatingEntry w s))
 -- "five actuals"
 abbrev pub actualEntry : List ℕ → ℕ → ℕ
 actualEntry w i = field w (160 + i)
+
+-- "A record is eight words: line (from 0), schedule, order number, five quantities" (document 02, F-5): word j of record i, of those that
+-- stand from byte r on
+abbrev pub recordWord : List ℕ → ℕ → ℕ → ℕ → ℕ
+recordWord b r i j = word b (r + recordBytes * i + 4 * j)
+
+abbrev pub recordLine : List ℕ → ℕ → ℕ → ℕ
+recordLine b r i = recordWord b r i 0
+
+abbrev pub recordSchedule : List ℕ → ℕ → ℕ → ℕ
+recordSchedule b r i = recordWord b r i 1
+
+abbrev pub recordOrder : List ℕ → ℕ → ℕ → ℕ
+recordOrder b r i = recordWord b r i 2
+
+abbrev pub recordEntry : List ℕ → ℕ → ℕ → ℕ → ℕ
+recordEntry b r i j = recordWord b r i (3 + j)

@@ -7,6 +7,7 @@ pub mod Refusals
 pub mod Steps
 pub mod Cutting
 pub mod Quantities
+pub mod InForce
 pub mod Matching
 pub mod Payments
 pub mod Totals

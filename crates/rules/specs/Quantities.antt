@@ -5,7 +5,7 @@ use mathlib.Core.Bool.{Bool, cond}
 use lib.ListN.{getD}
 use lib.Dec.{ltb}
 use Rattle.rules.specs.Fold.{sumTo, at}
-use Rattle.rules.specs.Layout.{pricingEntry, operatingTable, actualEntry, withdrawal}
+use Rattle.rules.specs.Layout.{pricingEntry, actualEntry, withdrawal}
 
 -- "Pricing total of s: the sum over intervals i of the entry for i in row min(s, i)" (FD 5.1.1)
 unfoldable pub pricingTotal : List ℕ → ℕ → ℕ
@@ -18,13 +18,6 @@ tableTotal t s = sumTo 5 (at (getD t s []))
 -- "Effective actual: the sum over intervals of the lesser of operating row 5 and the actual" (FD 6.1.1, 6.2.1), with that table
 unfoldable pub tableActual : List (List ℕ) → List ℕ → ℕ
 tableActual t w = sumTo 5 (λ i. min (at (getD t 4 []) i) (actualEntry w i))
-
--- the same with a line's own table
-abbrev pub operatingTotal : List ℕ → ℕ → ℕ
-operatingTotal w s = tableTotal (operatingTable w) s
-
-abbrev pub effectiveActual : List ℕ → ℕ
-effectiveActual w = tableActual (operatingTable w) w
 
 -- "Allocating Q to a step from l to u gives max(0, min(Q, u) - l), on both sides of the market" (FD 5.1.2, 5.2.2, 6.1.2);
 -- a difference of natural numbers is 0 where it would be below 0

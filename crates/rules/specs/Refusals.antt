@@ -1,26 +1,35 @@
--- Document 01, "Where each refusal is checked", and its table.
+-- Document 01, "Where each refusal is checked", and its table; 19 to 21 by document 02, F-5.
 use Prim.Native.Nat.{ℕ, zero, suc, _+_, _*_, _-_}
 use mathlib.Core.List.{List, []}
 use mathlib.Core.Bool.{Bool, not, cond, _&&_}
 use lib.ListN.{length}
 use lib.Dec.{eqb, ltb, leb}
 use Rattle.rules.specs.Fold.{refuse, _orElse_, first, before}
-use Rattle.rules.specs.Layout.{quantityMost, priceMost, excessMost, lineCount, marketOffset, linesOffset, lengthWord, mostLines, marketAt, linesAt, lineBytes, fileLength}
+use Rattle.rules.specs.Layout.{quantityMost, priceMost, excessMost, lineCount, marketOffset, linesOffset, lengthWord, recordsOffset, mostLines, mostRecords, lineBytes}
+use Rattle.rules.specs.Layout.{adHoc, marketAt, linesAt, recordsAt, recordCount, fileLength, recordLine, recordSchedule, recordOrder}
 use Rattle.rules.specs.Layout.{marketPrice, capMark, priceCap, clawback, lineAt, participant, point, side, accreditation, hedge, withdrawal}
 use Rattle.rules.specs.Layout.{bidSlots, bidCount, bidBreak, bidPrice, operatingTable, actualEntry}
 use Rattle.rules.specs.Steps.{greatestBreak, stepCount}
 use Rattle.rules.specs.Quantities.{pricingTotal, tableTotal}
+use Rattle.rules.specs.InForce.{tableInForce}
 
--- header: "1: under 64 bytes", "2: n is 0 or above 64", "3: offsets, length word or real length differ from those above"
-unfoldable pub headerFault : List ℕ → ℕ
-headerFault d =
-    refuse 1 (ltb (length d) 64)
+-- header: "1: under 64 bytes", "2: n is 0 or above 64", "3: offsets, length word or real length differ from those above"; "refusal 3 reads
+-- the layout named", "19 when, after refusal 3 and as the header's last check .., the count is above 64" (document 02, F-5).
+-- Of a file of `len` bytes, the first of which are d
+unfoldable pub headerFaultOf : List ℕ → ℕ → ℕ
+headerFaultOf d len =
+    refuse 1 (ltb len 64)
     orElse refuse 2 (eqb (lineCount d) 0)
     orElse refuse 2 (ltb mostLines (lineCount d))
-    orElse refuse 3 (not (eqb (marketOffset d) marketAt))
-    orElse refuse 3 (not (eqb (linesOffset d) linesAt))
-    orElse refuse 3 (not (eqb (lengthWord d) (fileLength (lineCount d))))
-    orElse refuse 3 (not (eqb (length d) (fileLength (lineCount d))))
+    orElse refuse 3 (not (eqb (marketOffset d) (marketAt d)))
+    orElse refuse 3 (not (eqb (linesOffset d) (linesAt d)))
+    orElse refuse 3 (adHoc d && not (eqb (recordsOffset d) (recordsAt d)))
+    orElse refuse 3 (not (eqb (lengthWord d) (fileLength d)))
+    orElse refuse 3 (not (eqb len (fileLength d)))
+    orElse refuse 19 (ltb mostRecords (recordCount d))
+
+unfoldable pub headerFault : List ℕ → ℕ
+headerFault d = headerFaultOf d (length d)
 
 -- market: "4: a price or APC above limit"
 unfoldable pub marketPriceFault : List ℕ → ℕ → ℕ
@@ -36,6 +45,29 @@ marketFault d =
     orElse refuse 4 (ltb priceMost (priceCap d))
     orElse first (markFault d) 5
     orElse refuse 5 (ltb 1 (clawback d))
+
+-- records: "20 when, after the market table, a record names a line not in the file or a schedule outside 1 to 5" (document 02, F-5): record i,
+-- of those from byte r on, in a file of n lines
+unfoldable pub recordFault : List ℕ → ℕ → ℕ → ℕ → ℕ
+recordFault d r n i =
+    refuse 20 (leb n (recordLine d r i))
+    orElse refuse 20 (eqb (recordSchedule d r i) 0)
+    orElse refuse 20 (ltb 5 (recordSchedule d r i))
+
+-- records: "21 when, after that, two records agree in line, schedule and order number"
+unfoldable pub sameRecord : List ℕ → ℕ → ℕ → ℕ → Bool
+sameRecord d r h i =
+    eqb (recordLine d r h) (recordLine d r i)
+    && eqb (recordSchedule d r h) (recordSchedule d r i)
+    && eqb (recordOrder d r h) (recordOrder d r i)
+
+unfoldable pub twinFault : List ℕ → ℕ → ℕ → ℕ
+twinFault d r i = first (λ h. refuse 21 (sameRecord d r h i)) i
+
+unfoldable pub recordsFault : List ℕ → ℕ
+recordsFault d =
+    first (recordFault d (recordsAt d) (lineCount d)) (recordCount d)
+    orElse first (twinFault d (recordsAt d)) (recordCount d)
 
 -- each line: "8: breaks not strictly rising from above 0, or above limit"
 unfoldable pub breakFault : List ℕ → ℕ → ℕ → ℕ
@@ -101,13 +133,14 @@ lineFaultWith t w =
     orElse first (totalFault t w) 5
     orElse first (actualFault w) 5
 
--- with the line's own table
+-- with the line's own table: "in the cutter, which is given one line and no records, the line's own" (document 02, F-5)
 unfoldable pub lineFault : List ℕ → ℕ
 lineFault w = lineFaultWith (operatingTable w) w
 
--- "lines one after another"
+-- "lines one after another", with the rows in force: "All rules on operating quantities, refusal 12 included, read the row in force"
+-- (document 02, F-5)
 unfoldable pub lineFaultAt : List ℕ → ℕ → ℕ
-lineFaultAt d k = lineFault (lineAt d k)
+lineFaultAt d k = lineFaultWith (tableInForce d k) (lineAt d k)
 
 -- all lines: "14: two with equal participant, point and side"
 unfoldable pub sameKey : List ℕ → List ℕ → Bool
@@ -125,6 +158,7 @@ unfoldable pub dayFault : List ℕ → ℕ
 dayFault d =
     headerFault d
     orElse marketFault d
+    orElse recordsFault d
     orElse first (lineFaultAt d) (lineCount d)
     orElse first (keyFault d) (lineCount d)
 

@@ -6,6 +6,7 @@ use Rattle.rules.specs.Fold.{five}
 use Rattle.rules.specs.Layout as layout
 use Rattle.rules.specs.Quantities.{pricingTotal, tableTotal, tableActual}
 use Rattle.rules.specs.Steps.{greatestBreak, stepCount, lowerEnd}
+use Rattle.rules.specs.InForce.{tableInForce}
 use Rattle.rules.specs.Cutting.{cutOf}
 use Rattle.rules.specs.declared.Step.{Step}
 use Rattle.laws.specs.Accepted.{AcceptedLine}
@@ -56,7 +57,7 @@ pub record StepReady (d : List ℕ) (k : ℕ) (m : Market) (t : LineTotals) (es 
   pub accepted : AcceptedLine (layout.lineAt d k)
   pub step : j < stepCount (layout.lineAt d k)
   pub market : m ≡ marketOf d
-  pub totals : t ≡ totalsOf (layout.operatingTable (layout.lineAt d k)) (layout.lineAt d k)
+  pub totals : t ≡ totalsOf (tableInForce d k) (layout.lineAt d k)
   pub ends : es ≡ cutOf (layout.lineAt d k) .ends
   pub prices : ps ≡ cutOf (layout.lineAt d k) .prices
   pub flags : fs ≡ cutOf (layout.lineAt d k) .flags

@@ -7,10 +7,11 @@ use mathlib.Core.Bool.{Bool, true, false, cond, not, _&&_}
 use lib.ListN.{length, getD, replicate}
 use lib.Dec.{leb}
 use Rattle.rules.specs.Fold.{five}
-use Rattle.rules.specs.Layout.{lineAt, accreditation, hedge, operatingTable}
+use Rattle.rules.specs.Layout.{lineAt, accreditation, hedge}
 use Rattle.rules.specs.Steps.{ends, stepCount, upperEnd, lowerEnd, price, flag, capped, paid, holdsIn, accredited, hedged}
 use Rattle.rules.specs.Cutting.{cutOf, flagWord, priceRow, prices, flags}
 use Rattle.rules.specs.Quantities.{tableTotal, tableActual}
+use Rattle.rules.specs.InForce.{tableInForce}
 use Rattle.rules.specs.Payments.{bit}
 use Rattle.rules.specs.Days.{stepOf}
 use Rattle.laws.specs.Folds.{sum-le, at-five, same-five}
@@ -37,7 +38,7 @@ marks-by false f = simp both-all
 -- the parts of `stepOf`, with the cutter's rows
 step-parts : (d : List ℕ) (k j : ℕ) (p f : List ℕ)
     → p ≡ five (λ s. price (lineAt d k) s (upperEnd (lineAt d k) j)) → f ≡ five (λ s. flag (lineAt d k) s (upperEnd (lineAt d k) j))
-    → stepWith (marketOf d) (totalsOf (operatingTable (lineAt d k)) (lineAt d k)) (lowerEnd (lineAt d k) j) (upperEnd (lineAt d k) j) p f ≡ stepOf d k j
+    → stepWith (marketOf d) (totalsOf (tableInForce d k) (lineAt d k)) (lowerEnd (lineAt d k) j) (upperEnd (lineAt d k) j) p f ≡ stepOf d k j
 unfolding stepWith marketOf totalsOf cappedIn cappedAt paidRow accreditedIn stepOf capped paid accredited hedged
 step-parts d k j p f a b =
     let w = lineAt d k in
@@ -66,7 +67,7 @@ module _ (w : List ℕ) (h : AcceptedLine w) (j : ℕ) (l : j < stepCount w) whe
 
 -- the step that the code puts together from the cutter's answer
 pub step-is : (d : List ℕ) (k j : ℕ) → AcceptedLine (lineAt d k) → j < stepCount (lineAt d k)
-    → stepWith (marketOf d) (totalsOf (operatingTable (lineAt d k)) (lineAt d k)) (lowerEnd (lineAt d k) j) (upperEnd (lineAt d k) j)
+    → stepWith (marketOf d) (totalsOf (tableInForce d k) (lineAt d k)) (lowerEnd (lineAt d k) j) (upperEnd (lineAt d k) j)
     (five (priceIn (cutOf (lineAt d k) .prices) j)) (five (flagIn (cutOf (lineAt d k) .flags) j))
     ≡ stepOf d k j
 step-is d k j h l =

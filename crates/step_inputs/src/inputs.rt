@@ -47,7 +47,7 @@ pub struct LineTotals {
 
 // The market table.
 pub fn market_of(day: &[u8]) -> Market
-    requires { ⌜ 64 ≤ length (now day) ⌝ }
+    requires { ⌜ 72 ≤ length (now day) ⌝ }
     ensures { λ r. ⌜ r ≡ marketOf (now (day .entry)) ⌝ }
 {
     Market {

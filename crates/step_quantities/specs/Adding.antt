@@ -7,7 +7,8 @@ use mathlib.Core.List.{List}
 use Rattle.rules.specs.Fold.{sumTo, five, at}
 use Rattle.rules.specs.Layout.{lineAt}
 use Rattle.rules.specs.Steps.{greatestBreak, stepCount, upperEnd, lowerEnd}
-use Rattle.rules.specs.Quantities.{allocated, untaken, pricingTotal, operatingTotal, effectiveActual}
+use Rattle.rules.specs.Quantities.{allocated, untaken, pricingTotal}
+use Rattle.rules.specs.InForce.{operatingTotal, effectiveActual}
 use Rattle.rules.specs.Payments.{operatingOn, pricingOn, actualOn, excessOf, onStep}
 use Rattle.rules.specs.Days.{stepOf}
 use Rattle.laws.specs.Folds.{sum-none, sum-suc, sum-le, sum-same, at-five}
@@ -86,22 +87,22 @@ module _ (d : List ℕ) (k : ℕ) (e : RisingEnds (lineAt d k)) where
   w = lineAt d k
 
   -- the excess of any step of the line is the line's
-  pub excess-operating : (i s : ℕ) → s < 5 → at (excessOf (stepOf d k i) .operating) s ≡ untaken (operatingTotal w s) (greatestBreak w)
+  pub excess-operating : (i s : ℕ) → s < 5 → at (excessOf (stepOf d k i) .operating) s ≡ untaken (operatingTotal d k s) (greatestBreak w)
   unfolding excessOf stepOf
-  excess-operating i s h = untaken-row (operatingTotal w) (greatestBreak w) s h
+  excess-operating i s h = untaken-row (operatingTotal d k) (greatestBreak w) s h
 
   pub excess-pricing : (i s : ℕ) → s < 5 → at (excessOf (stepOf d k i) .pricing) s ≡ untaken (pricingTotal w s) (greatestBreak w)
   unfolding excessOf stepOf
   excess-pricing i s h = untaken-row (pricingTotal w) (greatestBreak w) s h
 
-  pub excess-actual : (i : ℕ) → excessOf (stepOf d k i) .actual ≡ untaken (effectiveActual w) (greatestBreak w)
+  pub excess-actual : (i : ℕ) → excessOf (stepOf d k i) .actual ≡ untaken (effectiveActual d k) (greatestBreak w)
   unfolding excessOf stepOf
   excess-actual i = refl
 
   -- with it the steps' operating quantities add up to the operating total, in each schedule
-  pub operating-adds-up : (s : ℕ) → s < 5 → sumTo (stepCount w) (stepOperating d k s) + untaken (operatingTotal w s) (greatestBreak w) ≡ operatingTotal w s
+  pub operating-adds-up : (s : ℕ) → s < 5 → sumTo (stepCount w) (stepOperating d k s) + untaken (operatingTotal d k s) (greatestBreak w) ≡ operatingTotal d k s
   unfolding stepOperating operatingOn stepOf allocatedTo
-  operating-adds-up s h = totals-add-up (operatingTotal w) w s h e
+  operating-adds-up s h = totals-add-up (operatingTotal d k) w s h e
 
   -- the steps' pricing quantities to the pricing total
   pub pricing-adds-up : (s : ℕ) → s < 5 → sumTo (stepCount w) (stepPricing d k s) + untaken (pricingTotal w s) (greatestBreak w) ≡ pricingTotal w s
@@ -109,12 +110,12 @@ module _ (d : List ℕ) (k : ℕ) (e : RisingEnds (lineAt d k)) where
   pricing-adds-up s h = totals-add-up (pricingTotal w) w s h e
 
   -- and the steps' parts of the effective actual to it
-  pub actual-adds-up : sumTo (stepCount w) (stepActual d k) + untaken (effectiveActual w) (greatestBreak w) ≡ effectiveActual w
+  pub actual-adds-up : sumTo (stepCount w) (stepActual d k) + untaken (effectiveActual d k) (greatestBreak w) ≡ effectiveActual d k
   unfolding stepActual actualOn stepOf allocatedBetween lowerEnd upperEnd
-  actual-adds-up = steps-add-up w (effectiveActual w) e
+  actual-adds-up = steps-add-up w (effectiveActual d k) e
 
   -- the steps' C add up to at most the operating total less its excess
-  pub constrained-adds-up : (s : ℕ) → s < 5 → sumTo (stepCount w) (stepConstrained d k s) + untaken (operatingTotal w s) (greatestBreak w) ≤ operatingTotal w s
+  pub constrained-adds-up : (s : ℕ) → s < 5 → sumTo (stepCount w) (stepConstrained d k s) + untaken (operatingTotal d k s) (greatestBreak w) ≤ operatingTotal d k s
   unfolding stepConstrained stepOperating
   constrained-adds-up s h =
       omega (

@@ -11,7 +11,7 @@ use lib.Dec.{ltb}
 use lib.IntN.{pos}
 use borrow.Author.Tests.{ltb-true, ltb-false}
 use Rattle.rules.specs.Fold.{atZ}
-use Rattle.rules.specs.Layout.{word, mostLines, linesAt, lineBytes, lineAt}
+use Rattle.rules.specs.Layout.{word, mostLines, linePlace, lineBytes, lineAt}
 use Rattle.rules.specs.Refusals.{bookLength, settleFault}
 use Rattle.rules.specs.Payments.{Day}
 use Rattle.rules.specs.Days.{stepOf, dayWith}
@@ -31,9 +31,9 @@ use Rattle.book_layout.specs.Framing.{InRange}
 line-bytes : (d : List ℕ) (k : ℕ) → ((i : ℕ) → getD d i 0 < 256) → (j : ℕ) → getD (lineAt d k) j 0 < 256
 line-bytes d k h j =
     elim (decLt j lineBytes) [
-      | yes l ↦ rw (getD-take lineBytes (drop (linesAt + lineBytes * k) d) j 0 l, getD-drop (linesAt + lineBytes * k) d j 0) (h (linesAt + lineBytes * k + j))
+      | yes l ↦ rw (getD-take lineBytes (drop (linePlace d k) d) j 0 l, getD-drop (linePlace d k) d j 0) (h (linePlace d k + j))
       | no g ↦
-          let e : length (lineAt d k) ≤ j = omega (arith, length-take lineBytes (drop (linesAt + lineBytes * k) d)) in
+          let e : length (lineAt d k) ≤ j = omega (arith, length-take lineBytes (drop (linePlace d k) d)) in
           rw (List·getD-eq-default (lineAt d k) 0 e) (omega arith)
     ]
 

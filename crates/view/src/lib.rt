@@ -6,7 +6,7 @@ use day::day_number;
 use day_pools::pool_for;
 use layout::header::line_count;
 use layout::header::line_of;
-use line_quantities::rows::operating_table;
+use line_quantities::in_force::day_table;
 use rules::Excess;
 use rules::View;
 use step_inputs::inputs::market_of;
@@ -79,7 +79,7 @@ pub fn view(day: &[u8], line: usize, step: usize) -> View
     let prices = cut.prices;
     let flags = cut.flags;
     let m = market_of(day);
-    let t = totals_of(part, operating_table(part));
+    let t = totals_of(part, day_table(day, line, part));
     let x = step_at(
         day,
         line,

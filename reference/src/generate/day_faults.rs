@@ -1,29 +1,32 @@
 //! Damage to a day, each with the number it leads to; 0 is the passing side of a limit.
 
+use super::damage_day;
 use super::draw::{append_line, draw_day, draw_line, Scale};
+use super::line_faults::LINE_FAULTS;
 use super::random::Random;
 use crate::layout::*;
 
-type DayFault = (u32, fn(&mut Vec<u8>, &mut Random));
+pub type DayFault = (u32, fn(&mut Vec<u8>, &mut Random));
 
-pub const DAY_FAULTS: &[DayFault] = &[
-    // Header.
+/// Of the header of the old layout.
+pub const HEADER_FAULTS: &[DayFault] = &[
     (1, |day, _| day.clear()),
     (1, |day, _| day.truncate(1)),
-    (1, |day, _| day.truncate(LINES_OFFSET - 1)),
-    (3, |day, _| day.truncate(LINES_OFFSET)),
+    (1, |day, _| day.truncate(LEAST_DAY - 1)),
+    (3, |day, _| day.truncate(LEAST_DAY)),
     (2, |day, _| put_word(day, 0, 0)),
     (2, |day, _| put_word(day, 0, u32::MAX)),
     (2, |day, _| {
-        day.truncate(LINES_OFFSET);
+        day.truncate(LEAST_DAY);
         put_word(day, 0, 0);
-        put_word(day, 3, LINES_OFFSET as u32);
+        put_word(day, 3, LEAST_DAY as u32);
     }),
     (0, |day, random| extend(day, random, MOST_LINES)),
     (2, |day, random| extend(day, random, MOST_LINES + 1)),
     (3, |day, _| change(day, 0, |n| n - 1)),
     (3, |day, random| {
         day.truncate(day_length(2));
+        put_header(day, Layout::Old, 2, 0);
         extend(day, random, 2);
         put_word(day, 0, 3);
     }),
@@ -36,31 +39,55 @@ pub const DAY_FAULTS: &[DayFault] = &[
     (3, |day, _| day.truncate(day.len() - 1)),
     (3, |day, _| day.push(0)),
     (3, |day, _| day.resize(65_537, 0)),
+];
+
+/// Of what stands behind it.
+pub const DAY_FAULTS: &[DayFault] = &[
     // Market.
     (0, |day, random| {
-        put_word(day, MARKET_PRICE + random.place(SCHEDULES), PRICE_LIMIT)
+        put_word(
+            market_mut(day),
+            MARKET_PRICE + random.place(SCHEDULES),
+            PRICE_LIMIT,
+        )
     }),
     (4, |day, random| {
-        put_word(day, MARKET_PRICE + random.place(SCHEDULES), PRICE_LIMIT + 1)
+        put_word(
+            market_mut(day),
+            MARKET_PRICE + random.place(SCHEDULES),
+            PRICE_LIMIT + 1,
+        )
     }),
     (4, |day, random| {
-        put_word(day, MARKET_PRICE + random.place(SCHEDULES), u32::MAX)
+        put_word(
+            market_mut(day),
+            MARKET_PRICE + random.place(SCHEDULES),
+            u32::MAX,
+        )
     }),
-    (0, |day, _| put_word(day, PRICE_CAP, PRICE_LIMIT)),
-    (4, |day, _| put_word(day, PRICE_CAP, PRICE_LIMIT + 1)),
-    (4, |day, _| put_word(day, PRICE_CAP, u32::MAX)),
+    (0, |day, _| {
+        put_word(market_mut(day), PRICE_CAP, PRICE_LIMIT)
+    }),
+    (4, |day, _| {
+        put_word(market_mut(day), PRICE_CAP, PRICE_LIMIT + 1)
+    }),
+    (4, |day, _| put_word(market_mut(day), PRICE_CAP, u32::MAX)),
     (0, |day, random| {
-        put_word(day, CAP_MARK + random.place(SCHEDULES), 1)
+        put_word(market_mut(day), CAP_MARK + random.place(SCHEDULES), 1)
     }),
     (5, |day, random| {
-        put_word(day, CAP_MARK + random.place(SCHEDULES), 2)
+        put_word(market_mut(day), CAP_MARK + random.place(SCHEDULES), 2)
     }),
     (5, |day, random| {
-        put_word(day, CAP_MARK + random.place(SCHEDULES), u32::MAX)
+        put_word(
+            market_mut(day),
+            CAP_MARK + random.place(SCHEDULES),
+            u32::MAX,
+        )
     }),
-    (0, |day, _| put_word(day, CLAWBACK, 1)),
-    (5, |day, _| put_word(day, CLAWBACK, 2)),
-    (5, |day, _| put_word(day, CLAWBACK, u32::MAX)),
+    (0, |day, _| put_word(market_mut(day), CLAWBACK, 1)),
+    (5, |day, _| put_word(market_mut(day), CLAWBACK, 2)),
+    (5, |day, _| put_word(market_mut(day), CLAWBACK, u32::MAX)),
     // Keys.
     (14, |day, random| same_line(day, random)),
     (14, |day, random| {
@@ -74,14 +101,14 @@ pub const DAY_FAULTS: &[DayFault] = &[
     // Two faults: the first in the table's order counts, line by line.
     (3, |day, _| {
         day.push(0);
-        put_word(day, MARKET_PRICE, u32::MAX);
+        put_word(market_mut(day), MARKET_PRICE, u32::MAX);
     }),
     (4, |day, _| {
-        put_word(day, CAP_MARK, 2);
-        put_word(day, PRICE_CAP, u32::MAX);
+        put_word(market_mut(day), CAP_MARK, 2);
+        put_word(market_mut(day), PRICE_CAP, u32::MAX);
     }),
     (5, |day, _| {
-        put_word(day, CLAWBACK, 2);
+        put_word(market_mut(day), CLAWBACK, 2);
         put_word(line_mut(day, 0), SIDE, 2);
     }),
     (13, |day, _| {
@@ -99,10 +126,6 @@ fn line_count(day: &[u8]) -> usize {
     Day::new(day).line_count()
 }
 
-pub fn line_mut(day: &mut [u8], k: usize) -> &mut [u8] {
-    &mut day[day_length(k)..][..LINE_BYTES]
-}
-
 fn change(day: &mut [u8], place: usize, to: fn(u32) -> u32) {
     let value = to(word(day, place));
     put_word(day, place, value);
@@ -114,7 +137,7 @@ fn extend(day: &mut Vec<u8>, random: &mut Random, lines: usize) {
     while line_count(day) < lines {
         append_line(day, random, scale);
     }
-    put_words(day, &header(lines));
+    put_header(day, Layout::Old, lines, 0);
 }
 
 /// Gives some line a participant that no other has.
@@ -127,6 +150,16 @@ pub fn line_with_own_key(day: &mut [u8], random: &mut Random) -> usize {
     let k = random.place(used.len());
     put_word(line_mut(day, k), PARTICIPANT, free.unwrap_or(0));
     k
+}
+
+/// A day of 2 to 4 lines with a fault behind its header, and its number. Seeds in a row go through all the faults.
+pub fn damaged_behind_header(seed: u64) -> (Vec<u8>, u32) {
+    let random = &mut Random::new(seed);
+    let (mut day, _) = day_to_damage(seed, |_, _| {});
+    let kinds = DAY_FAULTS.len() + LINE_FAULTS.len();
+    let kind = (seed % kinds as u64) as usize;
+    let number = damage_day(&mut day, random, HEADER_FAULTS.len() + kind);
+    (day, number)
 }
 
 /// A day of 2 to 4 lines, and where the line begins that is to be damaged. It has a key of its own; `change` was made
@@ -152,9 +185,10 @@ fn two_lines(day: &mut [u8], random: &mut Random) -> (usize, usize) {
 
 /// Copies words of line `from` over the same words of line `to`.
 fn copy_words(day: &mut [u8], from: usize, to: usize, places: std::ops::Range<usize>) {
-    let start = day_length(from);
+    let layout = Layout::named(day);
+    let start = layout.line(from);
     let bytes = start + 4 * places.start..start + 4 * places.end;
-    day.copy_within(bytes, day_length(to) + 4 * places.start);
+    day.copy_within(bytes, layout.line(to) + 4 * places.start);
 }
 
 fn same_line(day: &mut [u8], random: &mut Random) {

@@ -23,15 +23,16 @@ impl Scale {
 }
 
 pub fn draw_day(random: &mut Random, lines: u32, scale: Scale) -> Vec<u8> {
-    let mut day = vec![0; LINES_OFFSET];
-    draw_market(&mut day, random, scale);
+    let mut day = vec![0; day_length(0)];
+    put_header(&mut day, Layout::Old, 0, 0);
+    draw_market(market_mut(&mut day), random, scale);
     for _ in 0..lines {
         append_line(&mut day, random, scale);
     }
     day
 }
 
-fn draw_market(day: &mut [u8], random: &mut Random, scale: Scale) {
+fn draw_market(table: &mut [u8], random: &mut Random, scale: Scale) {
     let middle = random.range(scale.price / 4, scale.price / 4 * 3);
     let marked = random.one_in(3);
     for s in 0..SCHEDULES {
@@ -41,14 +42,14 @@ fn draw_market(day: &mut [u8], random: &mut Random, scale: Scale) {
             2..5 => random.range(0, scale.price),
             _ => middle,
         };
-        put_word(day, MARKET_PRICE + s, price);
-        put_word(day, CAP_MARK + s, u32::from(marked && random.one_in(2)));
+        put_word(table, MARKET_PRICE + s, price);
+        put_word(table, CAP_MARK + s, u32::from(marked && random.one_in(2)));
     }
-    put_word(day, PRICE_CAP, random.range(0, scale.price));
-    put_word(day, CLAWBACK, u32::from(!random.one_in(5)));
+    put_word(table, PRICE_CAP, random.range(0, scale.price));
+    put_word(table, CLAWBACK, u32::from(!random.one_in(5)));
 }
 
-/// Adds a line with a key of its own and the header that says so.
+/// Adds a line with a key of its own to a day of the old layout, and the header that says so.
 pub fn append_line(day: &mut Vec<u8>, random: &mut Random, scale: Scale) {
     let side = random.side();
     let steps = match random.below(8) {
@@ -57,13 +58,13 @@ pub fn append_line(day: &mut Vec<u8>, random: &mut Random, scale: Scale) {
         _ => random.range(1, 8) as usize,
     };
     let mut line = draw_line(random, scale, side, steps.min(scale.steps));
+    let lines = Day::new(day).line_count();
     let keys: BTreeSet<[u32; 3]> = Day::new(day).lines().map(Line::key).collect();
     while Line::new(&line).is_some_and(|line| keys.contains(&line.key())) {
         draw_key(&mut line, random);
     }
     day.extend(line);
-    let lines = Day::new(day).line_count();
-    put_words(day, &header(lines));
+    put_header(day, Layout::Old, lines + 1, 0);
 }
 
 fn draw_key(line: &mut [u8], random: &mut Random) {

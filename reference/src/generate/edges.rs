@@ -13,7 +13,7 @@ pub fn edge_days() -> Vec<Vec<u8>> {
         days.push(vec![0; length]);
         days.push(with_length(length));
     }
-    for length in [1, 60, LINES_OFFSET, day_length(1), day_length(2)] {
+    for length in [1, 60, LEAST_DAY, day_length(1), day_length(2)] {
         days.push(vec![0xff; length]);
     }
     for place in 0..day_length(1) / 4 {
@@ -38,13 +38,13 @@ fn with_greatest_word(place: usize) -> Vec<u8> {
 }
 
 /// The line of K10 so many times, with different participants, and a header that says so.
-fn with_lines(lines: usize) -> Vec<u8> {
+pub fn with_lines(lines: usize) -> Vec<u8> {
     let mut day = k10();
-    let mut line = day.split_off(LINES_OFFSET);
+    let mut line = day.split_off(day_length(0));
     for participant in 0..lines {
         put_word(&mut line, PARTICIPANT, participant as u32);
         day.extend(&line);
     }
-    put_words(&mut day, &header(lines));
+    put_header(&mut day, Layout::Old, lines, 0);
     day
 }

@@ -1,6 +1,5 @@
 //! Days and lines without fault whose pricing and operating totals exceed M (02 F-2).
 
-use super::day_faults::line_mut;
 use super::draw::draw_operating;
 use super::line_faults::{most, put_total, PRICING};
 use super::pulled::clear_pricing;

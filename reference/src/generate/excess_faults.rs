@@ -1,6 +1,5 @@
 //! Totals at M + 1,000 and beyond (02 F-2), each with the number that it leads to; 0 is the passing side of the limit.
 
-use super::day_faults::line_mut;
 use super::excess::exceed_some;
 use super::faults::{Fault, Faults};
 use super::line_faults::*;
@@ -221,7 +220,7 @@ pub fn excess_k10_days(side: Side) -> Vec<Vec<u8>> {
 pub fn excess_k10_lines(side: Side) -> Vec<Vec<u8>> {
     let mut days = excess_k10_days(side);
     days.iter_mut()
-        .for_each(|day| drop(day.drain(..LINES_OFFSET)));
+        .for_each(|day| drop(day.drain(..day_length(0))));
     days
 }
 

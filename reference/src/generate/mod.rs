@@ -1,5 +1,8 @@
 //! Days and lines drawn from a seed, without fault or damaged. One seed always gives the same bytes.
 
+mod ad_hoc;
+mod ad_hoc_faults;
+mod ad_hoc_k10;
 mod day_faults;
 mod draw;
 mod edges;
@@ -13,7 +16,14 @@ mod random;
 mod sets;
 
 use crate::layout::*;
-use day_faults::{line_mut, line_with_own_key, DAY_FAULTS};
+pub use ad_hoc::{
+    ad_hoc_damaged_day, ad_hoc_damaged_day_and_number, ad_hoc_day, ad_hoc_day_and_old, ad_hoc_line,
+    append_records, record, row_of, small_ad_hoc_day, with_records, with_rows_in_force,
+    RecordWords, RowWords,
+};
+pub use ad_hoc_faults::{ad_hoc_fault_day, ad_hoc_fault_day_and_number, ad_hoc_fault_kinds};
+pub use ad_hoc_k10::{ad_hoc_k10_days, ad_hoc_length_days, ad_hoc_long_days};
+use day_faults::{line_with_own_key, DAY_FAULTS, HEADER_FAULTS};
 use draw::{draw_day, draw_line, Scale};
 pub use edges::edge_days;
 pub use excess::{
@@ -94,7 +104,8 @@ pub fn damaged_day_and_number(seed: u64) -> (Vec<u8>, Option<u32>) {
     };
     let scale = Scale::draw(&mut random);
     let mut day = draw_day(&mut random, lines, scale);
-    let kinds = DAY_FAULTS.len() + LINE_FAULTS.len();
+    let of_whole = HEADER_FAULTS.len() + DAY_FAULTS.len();
+    let kinds = of_whole + LINE_FAULTS.len();
     let kind = (seed % kinds as u64) as usize;
     let number = match random.below(8) {
         0 => {
@@ -103,9 +114,9 @@ pub fn damaged_day_and_number(seed: u64) -> (Vec<u8>, Option<u32>) {
             None
         }
         1 => {
-            let line_fault = DAY_FAULTS.len() + random.place(LINE_FAULTS.len());
+            let line_fault = of_whole + random.place(LINE_FAULTS.len());
             damage_day(&mut day, &mut random, line_fault);
-            damage_day(&mut day, &mut random, kind % DAY_FAULTS.len());
+            damage_day(&mut day, &mut random, kind % of_whole);
             None
         }
         _ => Some(damage_day(&mut day, &mut random, kind)),
@@ -113,14 +124,15 @@ pub fn damaged_day_and_number(seed: u64) -> (Vec<u8>, Option<u32>) {
     (day, number)
 }
 
-/// Puts a fault into a day and answers its number. Kinds count through the day's faults, then the lines'.
+/// Puts a fault into a day and answers its number. Kinds count through the header's faults, the day's, then the lines'.
 fn damage_day(day: &mut Vec<u8>, random: &mut Random, kind: usize) -> u32 {
-    if let Some((number, apply)) = DAY_FAULTS.get(kind) {
+    let of_whole = [HEADER_FAULTS, DAY_FAULTS].concat();
+    if let Some((number, apply)) = of_whole.get(kind) {
         apply(day, random);
         return *number;
     }
     let k = line_with_own_key(day, random);
-    damage_line(line_mut(day, k), random, kind - DAY_FAULTS.len())
+    damage_line(line_mut(day, k), random, kind - of_whole.len())
 }
 
 fn replace_some_word(bytes: &mut [u8], random: &mut Random) {

@@ -1,6 +1,5 @@
 //! Days and lines without fault in which bids are pulled in a reschedule (02 F-6).
 
-use super::day_faults::line_mut;
 use super::draw::{draw_operating, draw_quantities};
 use super::line_faults::{most, pull, put_fresh_bid};
 use super::random::Random;
@@ -126,7 +125,11 @@ fn cap_a_pulled_bid(day: &mut [u8], random: &mut Random) {
     if !pulled.is_empty() {
         let (s, price) = random.pick(&pulled);
         let caps = [price / 2, price.saturating_sub(1), price, price + 1];
-        put_word(day, CAP_MARK + s, 1);
-        put_word(day, PRICE_CAP, random.pick(&caps).min(PRICE_LIMIT));
+        put_word(market_mut(day), CAP_MARK + s, 1);
+        put_word(
+            market_mut(day),
+            PRICE_CAP,
+            random.pick(&caps).min(PRICE_LIMIT),
+        );
     }
 }

@@ -1,7 +1,6 @@
 //! Damage to days and lines with pulled bids (02 F-6), each with the number it leads to; 0 is the passing side of a
 //! limit.
 
-use super::day_faults::line_mut;
 use super::draw::put_bid;
 use super::faults::{Fault, Faults};
 use super::line_faults::*;

@@ -1,6 +1,5 @@
 //! Days and lines with accreditation by schedule (02 F-7), without fault and on both sides of refusal 6's limits.
 
-use super::day_faults::line_mut;
 use super::draw::{draw_day, Scale};
 use super::random::Random;
 use super::{line, small_day, valid_day};
@@ -76,7 +75,7 @@ type TwoFaults = (u32, fn(&mut Vec<u8>));
 /// Of a day of at least 2 lines.
 const TWO_FAULTS_OF_DAY: [TwoFaults; 6] = [
     (5, |day| {
-        put_word(day, CLAWBACK, 2);
+        put_word(market_mut(day), CLAWBACK, 2);
         put_accreditation(line_mut(day, 0), 31);
     }),
     (6, |day| {

@@ -41,7 +41,7 @@ fn k10_with(words: &[(usize, u32)]) -> Vec<u8> {
 fn k10_of_side_with(side: Side, words: &[(usize, u32)]) -> Vec<u8> {
     let mut day = k10_of(side);
     for &(place, value) in words {
-        put_word(&mut day[LINES_OFFSET..], place, value);
+        put_word(line_mut(&mut day, 0), place, value);
     }
     day
 }
@@ -161,7 +161,7 @@ fn one_step_day(row: [u32; 2], actuals: [u32; 2]) -> Vec<u8> {
         ]);
     }
     let mut day = k10_with(&words);
-    (0..SCHEDULES).for_each(|s| put_bid(&mut day[LINES_OFFSET..], s, &[(1000, 50_000)]));
+    (0..SCHEDULES).for_each(|s| put_bid(line_mut(&mut day, 0), s, &[(1000, 50_000)]));
     day
 }
 

@@ -4,7 +4,7 @@
 use crate::programs::run;
 use crate::K10_REPORT;
 use reference::cut::cut;
-use reference::generate::{excess_fault_kinds, pulled_fault_kinds};
+use reference::generate::{ad_hoc_fault_kinds, excess_fault_kinds, pulled_fault_kinds};
 use reference::layout::{MOST_STEPS, SIDE};
 use reference::line_part::line_part;
 use reference::pack;
@@ -55,12 +55,18 @@ fn assert_all_numbers(pack: &[u8], wanted: impl IntoIterator<Item = u32>) {
 const PULLED_NUMBERS: [u32; 9] = [0, 6, 7, 8, 9, 10, 11, 13, 14];
 const EXCESS_NUMBERS: [u32; 8] = [0, 6, 8, 10, 11, 12, 13, 14];
 
+/// The numbers of a day's file, as days with ad hoc records have them all.
+fn file_numbers() -> impl Iterator<Item = u32> {
+    (0..=14).chain(19..=21)
+}
+
 /// The packs have all kinds of fault: of days by seeds in a row, of lines by every third seed. `check_steps` leaves out
 /// the last 22 of pulled bids, their slots.
 #[test]
 fn kinds_of_fault() {
     assert_eq!(pulled_fault_kinds(), [64, 186 / 3]);
     assert_eq!(excess_fault_kinds(), [33, 93 / 3]);
+    assert_eq!(ad_hoc_fault_kinds(), 119);
 }
 
 #[test]
@@ -83,7 +89,14 @@ fn examples() {
 /// was.
 #[test]
 fn worked_by_hand() {
-    for name in ["rules", "accreditation", "pulled", "excess", "winter"] {
+    for name in [
+        "rules",
+        "accreditation",
+        "pulled",
+        "excess",
+        "ad-hoc",
+        "winter",
+    ] {
         let day = stored(&format!("examples/{name}.day"));
         for (program, ending) in [("settle", "report"), ("steps", "steps")] {
             let file = format!("examples/{name}.{ending}");
@@ -100,14 +113,24 @@ fn day_numbers() {
     let sets = made(&["accreditations", "days 0 34 set-faults"]);
     let pulled = made(&["pulled", "days 0 64 pulled-faults"]);
     let excess = made(&["excess", "days 0 33 excess-faults", "excess withdrawals"]);
+    let ad_hoc = made(&[
+        "ad-hoc",
+        "ad-hoc withdrawals",
+        "ad-hoc-lengths",
+        "days 0 119 ad-hoc-faults",
+        "days 616 44 ad-hoc-damaged",
+        "ad-hoc-long",
+    ]);
     let edges = made(&["edges"]);
-    let pack = [&edges[..], &damaged, &sets, &pulled, &excess].concat();
+    let packs = [&edges[..], &damaged, &sets, &pulled, &excess, &ad_hoc];
+    let pack = packs.concat();
     assert!(kept("check_day_numbers", "stdin") == pack);
     assert!(kept("check_day_numbers", "stdout") == numbers(&pack).as_bytes());
     assert_all_numbers(&damaged, 0..=14);
     assert_all_numbers(&sets, [0, 5, 6, 13, 14]);
     assert_all_numbers(&pulled, PULLED_NUMBERS);
     assert_all_numbers(&excess, EXCESS_NUMBERS);
+    assert_all_numbers(&ad_hoc, file_numbers());
 }
 
 #[test]
@@ -117,8 +140,19 @@ fn settle() {
     assert_eq!(kept("settle", "stdout"), K10_REPORT.as_bytes());
 }
 
+/// The days with ad hoc records that `check_settle` is run on.
+const AD_HOC: [&str; 7] = [
+    "ad-hoc",
+    "ad-hoc withdrawals",
+    "ad-hoc-lengths",
+    "days 20 16 ad-hoc",
+    "days 20 30 small-ad-hoc",
+    "days 0 119 ad-hoc-faults",
+    "days 528 44 ad-hoc-damaged",
+];
+
 /// Days of 1 to 64 lines, valid and damaged, with every refusal that a file can have; then days with sets, with pulled
-/// bids and with totals above M.
+/// bids, with totals above M and with ad hoc records.
 #[test]
 fn settle_days() {
     let mixed = made(&["days 1 240 mixed"]);
@@ -142,7 +176,8 @@ fn settle_days() {
         "days 1386 24 over-delivery",
         "days 545 24 small-over-delivery",
     ]);
-    let packs = [&mixed[..], &sets, &pulled, &excess];
+    let ad_hoc = made(&AD_HOC);
+    let packs = [&mixed[..], &sets, &pulled, &excess, &ad_hoc];
     assert!(kept("check_settle", "stdin") == packs.concat());
     let reports = packs.map(|pack| run(&["expect", "settle"], pack));
     assert!(kept("check_settle", "stdout") == reports.concat());
@@ -150,6 +185,7 @@ fn settle_days() {
     assert_all_numbers(&sets, [0, 5, 6, 13, 14]);
     assert_all_numbers(&pulled, PULLED_NUMBERS);
     assert_all_numbers(&excess, EXCESS_NUMBERS);
+    assert_all_numbers(&ad_hoc, file_numbers());
     for reports in reports {
         let reports = String::from_utf8(reports).unwrap();
         for count in [1, 64] {
@@ -172,8 +208,8 @@ fn counts_and_numbers(mut pack: &[u8]) -> (BTreeSet<(u8, u32)>, BTreeSet<u32>) {
     (counts, numbers)
 }
 
-/// Lines of both sides with every count of steps, and every refusal of a line; then lines with sets, with pulled bids
-/// and with totals above M.
+/// Lines of both sides with every count of steps, and every refusal of a line; then lines with sets, with pulled bids,
+/// with totals above M and of days with ad hoc records.
 #[test]
 fn cut_lines() {
     let lines = made(&["lines 1 1000"]);
@@ -184,13 +220,15 @@ fn cut_lines() {
         "excess-lines",
         "excess-lines withdrawals",
     ]);
-    let pack = [&lines[..], &sets, &pulled, &excess].concat();
+    let ad_hoc = made(&["lines 1 48 ad-hoc"]);
+    let pack = [&lines[..], &sets, &pulled, &excess, &ad_hoc].concat();
     assert!(kept("check_cut", "stdin") == pack);
     assert!(kept("check_cut", "stdout") == run(&["expect", "cut"], &pack));
     assert_eq!(counts_and_numbers(&sets).1, [6, 18].into());
     let refused = [&pulled, &excess].map(|pack| counts_and_numbers(pack).1);
     assert_eq!(refused[0], [6, 7, 8, 9, 10, 11, 13, 18].into());
     assert_eq!(refused[1], [6, 8, 10, 11, 12, 13, 18].into());
+    assert_eq!(counts_and_numbers(&ad_hoc).1, [12].into());
     let (counts, numbers) = counts_and_numbers(&lines);
     // A withdrawal has no hedge, so its steps are at most 55.
     let most = MOST_STEPS as u32;
@@ -214,7 +252,8 @@ fn steps() {
     assert!(kept("steps", "stdout") == run(&["steps"], &day));
 }
 
-/// Days without fault, and damaged ones of every number; then days with sets, with pulled bids and with totals above M.
+/// Days without fault, and damaged ones of every number; then days with sets, with pulled bids, with totals above M and
+/// with ad hoc records.
 #[test]
 fn steps_days() {
     let small = made(&["days 2300 96 small"]);
@@ -226,10 +265,21 @@ fn steps_days() {
     let excess = made(&["days 7980 30 small-excess"]);
     let excess_limits = made(&["excess", "days 0 33 excess-faults", "excess withdrawals"]);
     let over_delivery = made(&["days 2497 24 small-over-delivery"]);
+    let ad_hoc = made(&["days 500 36 small-ad-hoc"]);
+    let ad_hoc_limits = made(&[
+        "ad-hoc",
+        "ad-hoc withdrawals",
+        "days 0 119 ad-hoc-faults",
+        "days 528 44 ad-hoc-damaged",
+        "ad-hoc-long",
+    ]);
     let with_sets = [&sets[..], &set_faults].concat();
     let with_pulled = [&pulled[..], &pulled_faults].concat();
     let with_excess = [&excess[..], &excess_limits, &over_delivery].concat();
-    let pack = [&small[..], &damaged, &with_sets, &with_pulled, &with_excess].concat();
+    let with_ad_hoc = [&ad_hoc[..], &ad_hoc_limits].concat();
+    let for_01 = [&small[..], &damaged].concat();
+    let packs = [for_01, with_sets, with_pulled, with_excess, with_ad_hoc];
+    let pack = packs.concat();
     assert!(kept("check_steps", "stdin") == pack);
     assert!(kept("check_steps", "stdout") == run(&["expect", "steps"], &pack));
     assert_eq!(numbers(&small), "0\n".repeat(96));
@@ -237,10 +287,12 @@ fn steps_days() {
     assert_eq!(numbers(&pulled), "0\n".repeat(30));
     assert_eq!(numbers(&excess), "0\n".repeat(30));
     assert_eq!(numbers(&over_delivery), "0\n".repeat(24));
+    assert_eq!(numbers(&ad_hoc), "0\n".repeat(36));
     assert_all_numbers(&damaged, 0..=14);
     assert_all_numbers(&set_faults, [0, 5, 6, 13, 14]);
     assert_all_numbers(&pulled_faults, PULLED_NUMBERS);
     assert_all_numbers(&excess_limits, EXCESS_NUMBERS);
+    assert_all_numbers(&ad_hoc_limits, file_numbers());
 }
 
 /// The parts that `check_line_parts` prints, of its day and of parts of its buffer that are refused as days.

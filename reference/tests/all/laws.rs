@@ -1,4 +1,4 @@
-//! Demand 3 (01 "Totals and book", "Matching") and what 02 F-2 makes of it, on generated days.
+//! Demand 3 (01 "Totals and book", "Matching") and what 02 F-2 and F-5 make of it, on generated days.
 
 use crate::{book_of, law_days, line_count};
 use reference::cut::cut;
@@ -14,7 +14,7 @@ fn steps_and_quantities_add_up() {
         let views = DayView::new(&day);
         for (k, line) in views.day.lines().enumerate() {
             let steps: Vec<View> = views.line(line).collect();
-            check_cut(line_part(&day, k as u64), &steps);
+            check_cut(line_part(&day, k as u64), &steps, Layout::named(&day));
             let widths: u32 = steps.iter().map(|v| v.width).sum();
             assert_eq!(widths, line.greatest_break());
             check_totals(line, &steps);
@@ -42,9 +42,13 @@ fn check_totals(line: Line, steps: &[View]) {
     assert!(last.excess.actual <= last.excess.operating[SCHEDULES - 1]);
 }
 
-/// The cutter's ends and flags are the view's, and a width is an end less the one before.
-fn check_cut(line: &[u8], steps: &[View]) {
+/// The cutter's ends and flags are the view's, and a width is an end less the one before. Where ad hoc rows are in
+/// force it may refuse the line for its own.
+fn check_cut(line: &[u8], steps: &[View], layout: Layout) {
     let cut = cut(line);
+    if layout == Layout::AdHoc && cut.number == 12 {
+        return;
+    }
     assert_eq!((cut.number, cut.count as usize), (0, steps.len()));
     let mut lower = 0;
     for (k, step) in steps.iter().enumerate() {

@@ -1,5 +1,6 @@
 //! Tests of the reference implementation. Expected figures are those of documents 01 and 02 and the functional design.
 
+mod ad_hoc;
 mod excess;
 mod figures;
 mod kept;
@@ -7,6 +8,7 @@ mod laws;
 mod programs;
 mod pulled;
 mod reach;
+mod reach_ad_hoc;
 mod reach_excess;
 mod reach_pulled;
 mod reach_sets;
@@ -16,8 +18,10 @@ mod second;
 mod sets;
 mod worked;
 
-use reference::generate::{excess_day, over_delivery_day, pulled_day, set_day, valid_day};
-use reference::layout::{book_length, LINES_OFFSET};
+use reference::generate::{
+    ad_hoc_day, excess_day, over_delivery_day, pulled_day, set_day, valid_day,
+};
+use reference::layout::{book_length, day_length};
 use reference::refusal::{cut_number, day_number, settle_number, view_number};
 use reference::settle::settle;
 
@@ -63,12 +67,18 @@ fn excess_days() -> impl Iterator<Item = Vec<u8>> {
     })
 }
 
+/// Days of all these kinds with ad hoc records.
+fn ad_hoc_days() -> impl Iterator<Item = Vec<u8>> {
+    (0..300).map(ad_hoc_day)
+}
+
 /// Generated days that every law, and the second computation, is tried on.
 fn law_days() -> impl Iterator<Item = Vec<u8>> {
     valid_days()
         .chain(set_days())
         .chain(pulled_days())
         .chain(excess_days())
+        .chain(ad_hoc_days())
 }
 
 fn line_count(day: &[u8]) -> usize {
@@ -88,6 +98,6 @@ fn numbers(day: &[u8]) -> [u32; 4] {
         day_number(day),
         settle_number(day, 152),
         view_number(day, 0, 0),
-        cut_number(&day[LINES_OFFSET..]),
+        cut_number(&day[day_length(0)..]),
     ]
 }

@@ -1,7 +1,7 @@
 //! The program, run as a process.
 
 use crate::K10_REPORT;
-use reference::generate::{damaged_day, valid_day};
+use reference::generate::{ad_hoc_long_days, damaged_day, valid_day};
 use reference::report::{settle_report, steps_report};
 use std::io::Write;
 use std::process::{Command, Stdio};
@@ -38,6 +38,10 @@ fn refusals_and_long_input() {
     let mut day = valid_day(1);
     day.resize(70_000, 0);
     assert_eq!(run(&["settle"], &day), b"refused 3\n");
+    let long = &ad_hoc_long_days()[0];
+    assert_eq!(long.len(), 65_544);
+    assert_eq!(run(&["settle"], long), b"refused 19\n");
+    assert_eq!(run(&["steps"], long), b"refused 19\n");
 }
 
 #[test]

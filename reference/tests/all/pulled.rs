@@ -24,12 +24,12 @@ pub fn put_bid(line: &mut [u8], bid: usize, steps: &[(u32, u32)]) {
 /// pricing quantities are 0 and the actuals are as scheduled, so C is what the operating total puts on a step.
 fn clawed_back_day() -> Vec<u8> {
     let mut day = vec![0; day_length(1)];
-    put_words(&mut day, &header(1));
+    put_header(&mut day, Layout::Old, 1, 0);
     let market = [
         30_000, 30_000, 36_000, 10_000, 30_000, 0, 0, 0, 1, 0, 15_000, 1,
     ];
-    put_words(&mut day[MARKET_OFFSET..], &market);
-    let line = &mut day[LINES_OFFSET..];
+    put_words(market_mut(&mut day), &market);
+    let line = line_mut(&mut day, 0);
     put_words(line, &[7, 3, 0, 1, 0]);
     put_bid(line, 0, &[(1000, 20_000), (3000, 50_000)]);
     put_bid(line, 1, &[(1000, 40_000)]);
@@ -91,7 +91,7 @@ fn k10_with_each_set_pulled() {
     for set in 0..32 {
         for clawback in [0, 1] {
             let mut day = k10_pulled(set);
-            put_word(&mut day, CLAWBACK, clawback);
+            put_word(market_mut(&mut day), CLAWBACK, clawback);
             let report = match set % 2 {
                 0 => crate::K10_REPORT,
                 _ => "refused 7\n",
@@ -139,13 +139,13 @@ fn cut_of_a_pulled_schedule() {
 #[test]
 fn view_of_a_pulled_schedule() {
     for day in pulled_days() {
-        let (views, cap) = (DayView::new(&day), word(&day, PRICE_CAP));
-        let clawback = word(&day, CLAWBACK) == 1;
+        let (views, cap) = (DayView::new(&day), word(market(&day), PRICE_CAP));
+        let clawback = word(market(&day), CLAWBACK) == 1;
         for (k, line) in views.day.lines().enumerate() {
             let bytes = &day[day_length(k)..day_length(k + 1)];
             let steps: Vec<View> = views.line(line).collect();
             for s in pulled_schedules(bytes) {
-                let price = match word(&day, CAP_MARK + s) {
+                let price = match word(market(&day), CAP_MARK + s) {
                     1 => price_taken_over(bytes, s).min(cap),
                     _ => price_taken_over(bytes, s),
                 };
@@ -251,7 +251,7 @@ const WORDS: &[(usize, u32, u32)] = &[
 fn limits_with_four_bids_pulled() {
     for &(place, value, number) in WORDS {
         let mut day = k10_pulled(0b11110);
-        put_word(&mut day, LINES_OFFSET / 4 + place, value);
+        put_word(line_mut(&mut day, 0), place, value);
         assert_eq!(numbers(&day), [number; 4], "word {place} as {value}");
         assert_eq!(line_part_number(&day, 0), 0);
     }
@@ -262,14 +262,14 @@ fn limits_with_four_bids_pulled() {
 fn limits_with_a_lowered_m() {
     let numbers = |hedge: u32, total: u32| {
         let mut day = k10();
-        let line = &mut day[LINES_OFFSET..];
+        let line = line_mut(&mut day, 0);
         for bid in [0, 1, 3, 4] {
             put_bid(line, bid, &[(1000, 20_000), (2500, 50_000)]);
         }
         put_word(line, HEDGE, hedge);
         put_word(line, operating_place(2, 0), total - 1000);
         let with_bid = day_number(&day);
-        put_bid(&mut day[LINES_OFFSET..], 2, &[]);
+        put_bid(line_mut(&mut day, 0), 2, &[]);
         [with_bid, day_number(&day)]
     };
     assert_eq!(numbers(2500, 3500), [0, 0]);

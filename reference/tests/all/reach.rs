@@ -176,9 +176,11 @@ fn generated_days_reach() {
     assert_eq!(not_reached(valid_days()), [""; 0]);
 }
 
-/// Days with a total above M, others with a pulled bid, others with a set of schedules, and those of document 01 alone.
+/// Days of the layout with ad hoc records; of the others those with a total above M, others with a pulled bid, others
+/// with a set of schedules, and those of document 01 alone.
 #[derive(PartialEq, Eq)]
 pub enum Kind {
+    AdHoc,
     Excess,
     Pulled,
     Sets,
@@ -189,8 +191,11 @@ impl Kind {
     fn of(day: &[u8]) -> Kind {
         let is_pulled = |line: Line| (0..SCHEDULES).any(|bid| line.is_pulled(bid));
         let is_set = |line: Line| line.word(ACCREDITATION) >= EMPTY_SET;
+        let layout = Layout::named(day);
         let day = Day::new(day);
-        if day.lines().any(has_excess) {
+        if layout == Layout::AdHoc {
+            Kind::AdHoc
+        } else if day.lines().any(has_excess) {
             Kind::Excess
         } else if day.lines().any(is_pulled) {
             Kind::Pulled

@@ -298,7 +298,7 @@ fn kept_limits_reach() {
         let days = entries(program)
             .into_iter()
             .filter(|day| day.len() == day_length(1));
-        days.map(|day| day[LINES_OFFSET..].to_vec()).collect()
+        days.map(|day| day[day_length(0)..].to_vec()).collect()
     };
     let packs = ["check_settle", "check_steps", "check_day_numbers"].map(of_days);
     for lines in packs.iter().chain([&entries("check_cut")]) {

@@ -109,7 +109,7 @@ fn check_days(days: &[Vec<u8>]) {
     assert_eq!(met.missing(&wanted), [""; 0]);
     let lines = days
         .iter()
-        .flat_map(|day| day[LINES_OFFSET..].chunks(LINE_BYTES));
+        .flat_map(|day| day[day_length(0)..].chunks(LINE_BYTES));
     check_sizes(lines);
 }
 

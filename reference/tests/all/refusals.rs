@@ -109,7 +109,7 @@ fn accreditation_limits() {
 }
 
 /// The word a line starts at in a day of one line.
-const LINE: usize = LINES_OFFSET / 4;
+const LINE: usize = day_length(0) / 4;
 
 /// A word of K10's day, the value put there and the day's number. M is 3000.
 const K10_WORDS: &[(usize, u32, u32)] = &[

@@ -10,10 +10,23 @@ fn five(f: impl Fn(usize) -> i128) -> Five {
     std::array::from_fn(f)
 }
 
-/// A day's words: 16 of header and market table, then 165 of each line.
+/// A day's words in the old layout: 16 of header and market table, then 165 of each line. Ad hoc rows are written over
+/// the lines' own, in the order of their order numbers.
 fn words(day: &[u8]) -> Vec<i128> {
     let word = |four: &[u8]| u32::from_le_bytes(four.try_into().unwrap()).into();
-    day.chunks(4).map(word).collect()
+    let words: Vec<i128> = day.chunks(4).map(word).collect();
+    if words[1] == 16 {
+        return words;
+    }
+    let (before, records) = words.split_at(words[5] as usize / 4);
+    let mut old = [&before[..4], &before[6..]].concat();
+    let mut records: Vec<&[i128]> = records.chunks(8).collect();
+    records.sort_by_key(|record| record[2]);
+    for record in records {
+        let row = 16 + 165 * record[0] as usize + 135 + 5 * (record[1] as usize - 1);
+        old[row..row + 5].copy_from_slice(&record[3..]);
+    }
+    old
 }
 
 fn breaks(line: &[i128]) -> BTreeSet<i128> {

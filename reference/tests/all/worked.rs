@@ -31,8 +31,18 @@ fn pulled() {
 /// Totals above M (02 F-2).
 #[test]
 fn excess() {
-    for [day, report, steps] in worked!("F-2-1" "F-2-2" "F-2-3") {
-        assert_eq!(settle_report(day).as_bytes(), report);
-        assert_eq!(steps_report(day).as_bytes(), steps);
+    check(&worked!("F-2-1" "F-2-2" "F-2-3"));
+}
+
+/// Ad hoc records (02 F-5).
+#[test]
+fn ad_hoc() {
+    check(&worked!("F-5-1" "F-5-2" "F-5-3"));
+}
+
+fn check(days: &[[&[u8]; 3]]) {
+    for [day, report, steps] in days {
+        assert_eq!(settle_report(day).as_bytes(), *report);
+        assert_eq!(steps_report(day).as_bytes(), *steps);
     }
 }

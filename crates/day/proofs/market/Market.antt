@@ -1,23 +1,30 @@
 -- The market table's refusals, from what the code has read.
 use Prim.Native.Nat.{ℕ, _+_, _*_, _≤_, _<_}
+use native.Mathlib.Omega.{arith}
 use mathlib.Core.Path.{_≡_, subst}
 use mathlib.Core.List.{List}
+use lib.ListN.{length}
 use lib.Dec.{ltb}
 use borrow.Author.Tests.{lt-ltb, le-ltb}
 use Rattle.rules.specs.Fold.{refuse, _orElse_, first}
-use Rattle.rules.specs.Layout.{word, marketWord, capMark, priceCap, clawback}
+use Rattle.rules.specs.Layout.{word, marketAt, marketWord, capMark, priceCap, clawback}
 use Rattle.rules.specs.Refusals.{marketPriceFault, markFault, marketFault}
+use Rattle.laws.specs.Layouts.{market-most}
 use Rattle.laws.specs.Folds.{ends-at, none-at, part-stops, part-passes}
 use Rattle.units.specs.declared.PriceRead.{PriceRead}
 use Rattle.units.specs.Kinds.{priceRead, priceNumber}
 use Rattle.units.proofs.Reading.{price-refused}
 
--- refusal 4 of one word of the table
-pub price-read : (d : List ℕ) (j p x : ℕ) (r : PriceRead) → p ≡ 16 + 4 * j → r ≡ priceRead (word d p) → x ≡ priceNumber 4 r
-    → x ≡ refuse 4 (ltb 10000000 (marketWord d j))
-price-read d j p x r e h g = price-refused d p (16 + 4 * j) e r h 4 x g
+-- a word of the table lies within the bytes
+pub table-lies : (d : List ℕ) (j p : ℕ) → p ≡ marketAt d + 4 * j → j < 12 → 72 ≤ length d → p + 4 ≤ length d
+table-lies d j p e l h = omega (arith, market-most d)
 
-pub market-price-read : (d : List ℕ) (s p x : ℕ) (r : PriceRead) → p ≡ 16 + 4 * s → r ≡ priceRead (word d p) → x ≡ priceNumber 4 r
+-- refusal 4 of one word of the table
+pub price-read : (d : List ℕ) (j p x : ℕ) (r : PriceRead) → p ≡ marketAt d + 4 * j → r ≡ priceRead (word d p) → x ≡ priceNumber 4 r
+    → x ≡ refuse 4 (ltb 10000000 (marketWord d j))
+price-read d j p x r e h g = price-refused d p (marketAt d + 4 * j) e r h 4 x g
+
+pub market-price-read : (d : List ℕ) (s p x : ℕ) (r : PriceRead) → p ≡ marketAt d + 4 * s → r ≡ priceRead (word d p) → x ≡ priceNumber 4 r
     → x ≡ marketPriceFault d s
 unfolding marketPriceFault
 market-price-read d s p x r e h g = price-read d s p x r e h g

@@ -12,11 +12,14 @@ returns : tie.Need-returns
 returns c = part-refused _ _ _ (c .before .before .line-part-number .ensures) (c .before .if1 .taken)
 
 line-place-requires : tie.Need-line-place-requires
-line-place-requires c κs = omega (arith, part-bounds _ _ _ (c .before .line-part-number .ensures) (c .if1 .left) .line-most)
+line-place-requires c κs =
+    let lies = part-bounds _ _ _ (c .before .line-part-number .ensures) (c .if1 .left) in
+    (lies .header-least, omega (arith, lies .line-most))
 
 add-result : tie.Need-add-result
 add-result c =
-    record { fits = omega (arith, c .line-place .ensures, part-bounds _ _ _ (c .before .before .line-part-number .ensures) (c .before .if1 .left) .line-most) }
+    let lies = part-bounds _ _ _ (c .before .before .line-part-number .ensures) (c .before .if1 .left) in
+    record { fits = omega (arith, c .line-place .ensures, lies .line-most, lies .lines-most) }
 
 part-result-end : tie.Need-part-result-end
 part-result-end c = omega (arith, c .line-place .ensures, part-bounds _ _ _ (c .before .before .line-part-number .ensures) (c .before .if1 .left) .length-least)

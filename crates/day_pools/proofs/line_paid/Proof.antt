@@ -10,7 +10,7 @@ use Rattle.rules.specs.Days.{settledDay}
 use Rattle.rules.specs.Steps.{ends, lowerEnd}
 use Rattle.day_pools.specs.Sums.{moneyTo, money-whole}
 use Rattle.day_pools.specs.Lines.{stepMoney, no-money}
-use Rattle.day_pools.proofs.Laws.{line-lies, lent-length, lent-with, lent-line, count-is, count-few, step-there, step-sized, next-lower}
+use Rattle.day_pools.proofs.Laws.{line-lies, table-lies, lent-length, lent-with, lent-line, count-is, count-few, step-there, step-sized, next-lower}
 use Rattle.day_pools.proofs.Laws.{step-payable, money-addable, money-next, market-claw}
 use Rattle.day_pools.proofs.line_paid.Statement.{statement}
 use Rattle.day_pools.proofs.line_paid.Tie as tie
@@ -27,10 +27,10 @@ line-of-requires c κs =
     let at-start = c .before in
     line-lies (now (at-start .args .day)) (at-start .pre .0) (at-start .args .k) (at-start .pre .1)
 
-operating-table-requires : tie.Need-operating-table-requires Inv-loop μ-loop
-operating-table-requires c κs =
+day-table-requires : tie.Need-day-table-requires Inv-loop μ-loop
+day-table-requires c κs =
     let at-start = c .before .before in
-    lent-length (now (at-start .args .day)) (at-start .pre .0) (at-start .args .k) (at-start .pre .1) _
+    table-lies (now (at-start .args .day)) (at-start .pre .0) (at-start .args .k) (at-start .pre .1) _
     (c .line-of .ensures)
 
 totals-of-requires : tie.Need-totals-of-requires Inv-loop μ-loop
@@ -40,7 +40,7 @@ totals-of-requires c κs =
     let day = now (at-start .args .day) in
     let k = at-start .args .k in
     let lent-with′ = lent-with day (at-start .pre .0) k (at-start .pre .1) _ (after-line-of .line-of .ensures) _
-    (c .operating-table .ensures) in
+    (c .day-table .ensures) in
     (lent-length day (at-start .pre .0) k (at-start .pre .1) _ (after-line-of .line-of .ensures), lent-with′)
 
 steps-requires : tie.Need-steps-requires Inv-loop μ-loop
@@ -65,7 +65,7 @@ money-after-requires c κs =
     let k = at-start .args .k in
     let market-claw′ = market-claw day _ (at-start .pre .2) in (
       step-there day (at-start .pre .0) k (at-start .pre .1) _ line-of-ensures _ (after-steps .steps .ensures)
-          (at-loop .loop .j) (omega (arith, c)) _ _ _ _ (at-start .pre .2) (after-steps .before .before .operating-table .ensures)
+          (at-loop .loop .j) (omega (arith, c)) _ _ _ _ (at-start .pre .2) (after-steps .before .before .day-table .ensures)
           (after-steps .before .totals-of .ensures) (at-loop .loop .inv .1),
       at-loop .before .window-of .ensures,
       step-sized day (at-start .pre .0) k (at-start .pre .1) _ line-of-ensures _ (after-steps .steps .ensures) (at-loop .loop .j)
@@ -124,5 +124,5 @@ returns c =
 pub line-paid-spec : {M : Type 1} → statement M
 line-paid-spec =
     tie.close
-    (tie.spec Inv-loop μ-loop line-of-requires operating-table-requires totals-of-requires steps-requires
+    (tie.spec Inv-loop μ-loop line-of-requires day-table-requires totals-of-requires steps-requires
     (λ c. search needs) (λ c κs. search needs) loop-holds money-after-requires mul-lower array-read-lower add-j (λ c. search needs) loop-again returns)

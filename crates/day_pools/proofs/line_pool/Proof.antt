@@ -11,7 +11,7 @@ use Rattle.rules.specs.Steps.{ends, lowerEnd}
 use Rattle.day_pools.specs.Sums.{poolTo, pool-whole}
 use Rattle.day_pools.specs.Sides.{stepPoolAt, linePool}
 use Rattle.day_pools.specs.Lines.{no-pool}
-use Rattle.day_pools.proofs.Laws.{line-lies, lent-length, lent-with, lent-line, count-is, count-few, step-there, step-sized, next-lower}
+use Rattle.day_pools.proofs.Laws.{line-lies, table-lies, lent-length, lent-with, lent-line, count-is, count-few, step-there, step-sized, next-lower}
 use Rattle.day_pools.proofs.Laws.{pool-addable, pool-next}
 use Rattle.day_pools.proofs.line_pool.Statement.{statement}
 use Rattle.day_pools.proofs.line_pool.Tie as tie
@@ -28,10 +28,10 @@ line-of-requires c κs =
     let at-start = c .before in
     line-lies (now (at-start .args .day)) (at-start .pre .0) (at-start .args .k) (at-start .pre .1)
 
-operating-table-requires : tie.Need-operating-table-requires Inv-loop μ-loop
-operating-table-requires c κs =
+day-table-requires : tie.Need-day-table-requires Inv-loop μ-loop
+day-table-requires c κs =
     let at-start = c .before .before in
-    lent-length (now (at-start .args .day)) (at-start .pre .0) (at-start .args .k) (at-start .pre .1) _
+    table-lies (now (at-start .args .day)) (at-start .pre .0) (at-start .args .k) (at-start .pre .1) _
     (c .line-of .ensures)
 
 totals-of-requires : tie.Need-totals-of-requires Inv-loop μ-loop
@@ -41,7 +41,7 @@ totals-of-requires c κs =
     let day = now (at-start .args .day) in
     let k = at-start .args .k in
     let lent-with′ = lent-with day (at-start .pre .0) k (at-start .pre .1) _ (after-line-of .line-of .ensures) _
-    (c .operating-table .ensures) in
+    (c .day-table .ensures) in
     (lent-length day (at-start .pre .0) k (at-start .pre .1) _ (after-line-of .line-of .ensures), lent-with′)
 
 steps-requires : tie.Need-steps-requires Inv-loop μ-loop
@@ -65,7 +65,7 @@ pool-after-requires c κs =
     let day = now (at-start .args .day) in
     let k = at-start .args .k in (
       step-there day (at-start .pre .0) k (at-start .pre .1) _ line-of-ensures _ (after-steps .steps .ensures)
-          (at-loop .loop .j) (omega (arith, c)) _ _ _ _ (at-start .pre .2) (after-steps .before .before .operating-table .ensures)
+          (at-loop .loop .j) (omega (arith, c)) _ _ _ _ (at-start .pre .2) (after-steps .before .before .day-table .ensures)
           (after-steps .before .totals-of .ensures) (at-loop .loop .inv .1),
       at-loop .before .window-of .ensures,
       step-sized day (at-start .pre .0) k (at-start .pre .1) _ line-of-ensures _ (after-steps .steps .ensures) (at-loop .loop .j)
@@ -122,6 +122,6 @@ returns c =
 pub line-pool-spec : {M : Type 1} → statement M
 line-pool-spec =
     tie.close
-    (tie.spec Inv-loop μ-loop line-of-requires operating-table-requires totals-of-requires steps-requires
+    (tie.spec Inv-loop μ-loop line-of-requires day-table-requires totals-of-requires steps-requires
     (λ c. search needs) (λ c κs. search needs) (λ c κs. search needs) loop-holds pool-after-requires mul-lower array-read-lower add-j
     (λ c. search needs) loop-again returns)

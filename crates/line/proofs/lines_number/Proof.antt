@@ -13,22 +13,22 @@ use Rattle.line.proofs.lines_number.Statement.{statement}
 use Rattle.line.proofs.lines_number.Tie as tie
 
 abbrev Inv-loop2 : tie.InvT-loop2
-Inv-loop2 b at n k from line head s count counted j₀ j = (j ≤ count) × (first (breakFault line s) j ≡ 0)
+Inv-loop2 b at n records rows k from line head s count counted j₀ j = (j ≤ count) × (first (breakFault line s) j ≡ 0)
 
 abbrev μ-loop2 : tie.MeasureT-loop2
-μ-loop2 b at n k from line head s count counted j₀ j = count - j
+μ-loop2 b at n records rows k from line head s count counted j₀ j = count - j
 
 abbrev Inv-loop : tie.InvT-loop
-Inv-loop b at n k from line head s₀ s = (s ≤ 5) × (first (bidFault line) s ≡ 0)
+Inv-loop b at n records rows k from line head s₀ s = (s ≤ 5) × (first (bidFault line) s ≡ 0)
 
 abbrev μ-loop : tie.MeasureT-loop
-μ-loop b at n k from line head s₀ s = 5 - s
+μ-loop b at n records rows k from line head s₀ s = 5 - s
 
 abbrev Inv-lines : tie.InvT-lines
-Inv-lines b at n k₀ k = (k ≤ n) × (first (lineFrom b at) k ≡ 0)
+Inv-lines b at n records count k₀ k = (k ≤ n) × (first (lineFrom b at records count) k ≡ 0)
 
 abbrev μ-lines : tie.MeasureT-lines
-μ-lines b at n k₀ k = n - k
+μ-lines b at n records count k₀ k = n - k
 
 lines-holds : tie.Need-lines-holds Inv-loop2 μ-loop2 Inv-loop μ-loop Inv-lines μ-lines
 lines-holds c = fold-begins _ _ _ refl
@@ -82,11 +82,11 @@ loop-again c =
     (c .before .slots-number .ensures) in
     fold-goes _ _ _ _ (at-loop-test .before .loop .inv .1) (at-loop-test .loop-test .taken) bid-slots′ (c .if5 .left)
 
-operating-table-requires : tie.Need-operating-table-requires Inv-loop2 μ-loop2 Inv-loop μ-loop Inv-lines μ-lines
-operating-table-requires c κs =
+table-in-force-requires : tie.Need-table-in-force-requires Inv-loop2 μ-loop2 Inv-loop μ-loop Inv-lines μ-lines
+table-in-force-requires c κs =
     let at-loop = c .before in
     let at-start = at-loop .before .before .before .before .before .before .before in
-    lent-length _ _ _ _ (omega arith) (at-start .pre .1)
+    (lent-length _ _ _ _ (omega arith) (at-start .pre .1), at-start .pre .2)
 
 limits-number-requires : tie.Need-limits-number-requires Inv-loop2 μ-loop2 Inv-loop μ-loop Inv-lines μ-lines
 limits-number-requires c κs =
@@ -102,9 +102,9 @@ lines-again c =
     let at-lines = at-loop .before .before .before .before .before in
     let all-passed′ = all-passed _ _ _ (at-loop .loop .inv .1) (at-loop .loop .inv .0)
     (c .before .before .before .loop-test .left) in
-    let line-limits′ = line-limits _ _ (at-loop .before .before .head-number .ensures) (at-loop .before .if2 .left) _ _
-    all-passed′ (c .before .before .operating-table .ensures) (c .before .limits-number .ensures) in
-    fold-goes _ _ _ _ (at-lines .lines .inv .1) (omega arith) (lent-is _ _ _ _ line-limits′) (c .if6 .left)
+    let line-limits′ = line-limits _ _ _ (at-loop .before .before .head-number .ensures) (at-loop .before .if2 .left) _ _
+    all-passed′ (c .before .before .table-in-force .ensures) (c .before .limits-number .ensures) in
+    fold-goes _ _ _ _ (at-lines .lines .inv .1) (omega arith) (lent-is _ _ _ _ _ _ line-limits′) (c .if6 .left)
 
 returns : tie.Need-returns Inv-loop2 μ-loop2 Inv-loop μ-loop Inv-lines μ-lines
 returns c = fold-ends _ _ _ (c .before .lines .inv .1) (c .before .lines .inv .0) (c .if1 .taken)
@@ -112,8 +112,8 @@ returns c = fold-ends _ _ _ (c .before .lines .inv .1) (c .before .lines .inv .0
 returns-2 : tie.Need-returns-2 Inv-loop2 μ-loop2 Inv-loop μ-loop Inv-lines μ-lines
 returns-2 c =
     let at-lines = c .before .before .before .before in
-    let line-head′ = line-head _ _ (c .before .head-number .ensures) (c .if2 .taken) in
-    fold-stops _ _ _ _ (at-lines .lines .inv .1) (omega arith) (lent-is _ _ _ _ line-head′) (c .if2 .taken)
+    let line-head′ = line-head _ _ _ (c .before .head-number .ensures) (c .if2 .taken) in
+    fold-stops _ _ _ _ (at-lines .lines .inv .1) (omega arith) (lent-is _ _ _ _ _ _ line-head′) (c .if2 .taken)
 
 returns-3 : tie.Need-returns-3 Inv-loop2 μ-loop2 Inv-loop μ-loop Inv-lines μ-lines
 returns-3 c =
@@ -121,9 +121,9 @@ returns-3 c =
     let at-lines = at-loop .before .before .before .before .before in
     let bid-count′ = bid-count _ _ _ (c .before .before .bid-count .ensures) _ (c .before .count-number .ensures)
     (c .if3 .taken) in
-    let line-bid′ = line-bid _ _ (at-loop .before .before .head-number .ensures) (at-loop .before .if2 .left) _ _
+    let line-bid′ = line-bid _ _ _ (at-loop .before .before .head-number .ensures) (at-loop .before .if2 .left) _ _
     (at-loop .loop .inv .1) (c .before .before .before .loop-test .taken) bid-count′ (c .if3 .taken) in
-    fold-stops _ _ _ _ (at-lines .lines .inv .1) (omega arith) (lent-is _ _ _ _ line-bid′) (c .if3 .taken)
+    fold-stops _ _ _ _ (at-lines .lines .inv .1) (omega arith) (lent-is _ _ _ _ _ _ line-bid′) (c .if3 .taken)
 
 returns-4 : tie.Need-returns-4 Inv-loop2 μ-loop2 Inv-loop μ-loop Inv-lines μ-lines
 returns-4 c =
@@ -134,9 +134,9 @@ returns-4 c =
     (c .before .break-number .ensures) (c .if4 .taken) in
     let bid-break′ = bid-break _ _ _ (in-else3 .before .before .bid-count .ensures) _
     (in-else3 .before .count-number .ensures) (in-else3 .if3 .left) _ fold-stops′ (c .if4 .taken) in
-    let line-bid′ = line-bid _ _ (at-loop .before .before .head-number .ensures) (at-loop .before .if2 .left) _ _
+    let line-bid′ = line-bid _ _ _ (at-loop .before .before .head-number .ensures) (at-loop .before .if2 .left) _ _
     (at-loop .loop .inv .1) (in-else3 .before .before .before .loop-test .taken) bid-break′ (c .if4 .taken) in
-    fold-stops _ _ _ _ (at-lines .lines .inv .1) (omega arith) (lent-is _ _ _ _ line-bid′) (c .if4 .taken)
+    fold-stops _ _ _ _ (at-lines .lines .inv .1) (omega arith) (lent-is _ _ _ _ _ _ line-bid′) (c .if4 .taken)
 
 returns-5 : tie.Need-returns-5 Inv-loop2 μ-loop2 Inv-loop μ-loop Inv-lines μ-lines
 returns-5 c =
@@ -148,10 +148,10 @@ returns-5 c =
     let bid-slots′ = bid-slots _ _ _ (at-loop2 .before .before .before .bid-count .ensures) _
     (at-loop2 .before .before .count-number .ensures) (at-loop2 .before .if3 .left) fold-ends′ _
     (c .before .slots-number .ensures) in
-    let line-bid′ = line-bid _ _ (at-loop-test .before .before .before .head-number .ensures)
+    let line-bid′ = line-bid _ _ _ (at-loop-test .before .before .before .head-number .ensures)
     (at-loop-test .before .before .if2 .left) _ _ (at-loop-test .before .loop .inv .1) (at-loop-test .loop-test .taken)
     bid-slots′ (c .if5 .taken) in
-    fold-stops _ _ _ _ (at-lines .lines .inv .1) (omega arith) (lent-is _ _ _ _ line-bid′) (c .if5 .taken)
+    fold-stops _ _ _ _ (at-lines .lines .inv .1) (omega arith) (lent-is _ _ _ _ _ _ line-bid′) (c .if5 .taken)
 
 returns-6 : tie.Need-returns-6 Inv-loop2 μ-loop2 Inv-loop μ-loop Inv-lines μ-lines
 returns-6 c =
@@ -159,9 +159,9 @@ returns-6 c =
     let at-lines = at-loop .before .before .before .before .before in
     let all-passed′ = all-passed _ _ _ (at-loop .loop .inv .1) (at-loop .loop .inv .0)
     (c .before .before .before .loop-test .left) in
-    let line-limits′ = line-limits _ _ (at-loop .before .before .head-number .ensures) (at-loop .before .if2 .left) _ _
-    all-passed′ (c .before .before .operating-table .ensures) (c .before .limits-number .ensures) in
-    fold-stops _ _ _ _ (at-lines .lines .inv .1) (omega arith) (lent-is _ _ _ _ line-limits′) (c .if6 .taken)
+    let line-limits′ = line-limits _ _ _ (at-loop .before .before .head-number .ensures) (at-loop .before .if2 .left) _ _
+    all-passed′ (c .before .before .table-in-force .ensures) (c .before .limits-number .ensures) in
+    fold-stops _ _ _ _ (at-lines .lines .inv .1) (omega arith) (lent-is _ _ _ _ _ _ line-limits′) (c .if6 .taken)
 
 pub lines-number-spec : {M : Type 1} → statement M
 lines-number-spec =
@@ -170,5 +170,5 @@ lines-number-spec =
     (λ c. search needs) (λ c. search needs) (λ c. search needs) (λ c. search needs) head-number-requires loop-holds
     bid-count-requires (λ c κs. search needs) loop2-holds break-number-requires (λ c. search needs)
     (λ c. search needs) loop2-again slots-number-requires (λ c. search needs) (λ c. search needs) loop-again
-    operating-table-requires limits-number-requires (λ c. search needs) (λ c. search needs) lines-again returns
+    table-in-force-requires limits-number-requires (λ c. search needs) (λ c. search needs) lines-again returns
     returns-2 returns-3 returns-4 returns-5 returns-6)

@@ -6,8 +6,9 @@ use mathlib.Core.Bool.{true}
 use lib.ListN.{replicate}
 use lib.IntN.{ℤ, pos, negsuc}
 use Rattle.rules.specs.Fold.{five}
+use Rattle.rules.specs.Layout.{operatingTable}
 use Rattle.rules.specs.Steps.{ends, price, flag}
-use Rattle.rules.specs.Quantities.{pricingTotal, operatingTotal, effectiveActual, allocated, lastAgino, agino}
+use Rattle.rules.specs.Quantities.{pricingTotal, tableTotal, tableActual, allocated, lastAgino, agino}
 use Rattle.rules.specs.Matching.{tenMatches}
 use Rattle.rules.specs.Totals.{adjusted}
 use Rattle.rules.specs.Book.{bits64, bookAfter}
@@ -75,7 +76,7 @@ priced s u = price tableLine s u ∷ flag tableLine s u ∷ []
 
 -- AGINO(5) on a step from l to u, with FD Table 7's operating total and effective actual
 abbrev lastAginoOn : ℕ → ℕ → ℕ
-lastAginoOn l u = lastAgino (replicate 4 0 ++ (allocated (operatingTotal tableLine 4) l u ∷ [])) (allocated (effectiveActual tableLine) l u)
+lastAginoOn l u = lastAgino (replicate 4 0 ++ (allocated (tableTotal (operatingTable tableLine) 4) l u ∷ [])) (allocated (tableActual (operatingTable tableLine) tableLine) l u)
 
 abbrev adjustedOf : List ℤ → List ℕ
 adjustedOf t = map bits64 (five (adjusted t))
@@ -97,7 +98,7 @@ cases =
     -- K4
     ∷ record { found = allocated (pricingTotal tableLine 1) 30 32 ∷ []; expected = 1 ∷ [] }
     -- K5
-    ∷ record { found = effectiveActual tableLine ∷ operatingTotal tableLine 4 ∷ []; expected = 47 ∷ 50 ∷ [] }
+    ∷ record { found = tableActual (operatingTable tableLine) tableLine ∷ tableTotal (operatingTable tableLine) 4 ∷ []; expected = 47 ∷ 50 ∷ [] }
     ∷ record { found = lastAginoOn 45 48 ∷ lastAginoOn 48 51 ∷ []; expected = 1 ∷ 2 ∷ [] }
     -- K6, where O(5) - A is 45
     ∷ record { found = five (agino k6 5); expected = 5 ∷ 15 ∷ 25 ∷ 35 ∷ 45 ∷ [] }

@@ -1,5 +1,5 @@
--- The days that docs/RULES.md works out by hand for document 02's requests: one lemma, computed on the definitions. It comes before the days of
--- the third implementation, so that a wrong definition that it refuses does not wait for those.
+-- The days that docs/RULES.md works out by hand for document 02's requests: one lemma, computed on the definitions, and after it the refusals of
+-- F-5. They come before the days of the third implementation, so that a wrong definition that they refuse does not wait for those.
 use mathlib.Core.Path.{_≡_, refl}
 use mathlib.Core.List.{List, [], _∷_, _++_}
 use mathlib.Core.Bool.{true}
@@ -13,27 +13,50 @@ use Rattle.rules.specs.Worked.Laws.{all, part-holds, case-holds, number-
 use Rattle.rules.specs.Worked.Figures.{figures}
 use Rattle.rules.specs.Worked.Reschedule.{rescheduleDay, rescheduleBook, rescheduleText, rescheduleCasesOn, rescheduleCases, rescheduleOpened}
 use Rattle.rules.specs.Worked.Pulled0.{pulled0Day, pulled0Book, pulled0Text, pulled0CasesOn, pulled0Cases, pulled0Opened}
+use Rattle.rules.specs.Worked.AdHoc0.{adHoc0Day, adHoc0Book, adHoc0Text, adHoc0CasesOn, adHoc0Cases, adHoc0Opened}
+use Rattle.rules.specs.Worked.AdHocRefused.{adHocRefusedCases, adHocRefusedOpened}
 use Rattle.rules.specs.Worked.Excess0.{excess0Day, excess0Book, excess0Text, excess0CasesOn, excess0Cases, excess0Opened}
 
 abbrev handParts : List (List Case)
-handParts = excess0Cases ∷ rescheduleCases ∷ pulled0Cases ∷ []
+handParts = adHoc0Cases ∷ excess0Cases ∷ rescheduleCases ∷ pulled0Cases ∷ []
 
 -- it names K1 to K10's lemma, so that where that is refused this is not computed
 pub hand-days : every (all handParts) ≡ true
-unfolding opened excess0Opened rescheduleOpened pulled0Opened
+unfolding opened adHoc0Opened excess0Opened rescheduleOpened pulled0Opened
 hand-days = let k = figures in refl
 
+-- F-5's refusals; it names the days by hand, so that where those are refused this is not computed
+pub ad-hoc-refused : every adHocRefusedCases ≡ true
+unfolding opened adHocRefusedOpened
+ad-hoc-refused = let k = hand-days in refl
+
 -- every case of each day: with `case-holds` the equation of any of them
+pub ad-hoc-0 : every adHoc0Cases ≡ true
+ad-hoc-0 = part-holds handParts hand-days 0
+
 pub excess-0 : every excess0Cases ≡ true
-excess-0 = part-holds handParts hand-days 0
+excess-0 = part-holds handParts hand-days 1
 
 pub reschedule : every rescheduleCases ≡ true
-reschedule = part-holds handParts hand-days 1
+reschedule = part-holds handParts hand-days 2
 
 pub pulled-0 : every pulled0Cases ≡ true
-pulled-0 = part-holds handParts hand-days 2
+pulled-0 = part-holds handParts hand-days 3
 
--- F-2: the day is accepted, its book with a lent byte beyond unchanged, and its report
+-- F-5: the day is accepted, its book with a lent byte beyond unchanged, and its report
+pub ad-hoc-0-accepted : dayFault adHoc0Day ≡ 0
+unfolding adHoc0CasesOn adHoc0Cases
+ad-hoc-0-accepted = number-holds (dayFault adHoc0Day) 0 (case-holds adHoc0Cases ad-hoc-0 0)
+
+pub ad-hoc-0-book : bookAfter adHoc0Day (replicate 209 170) ≡ adHoc0Book ++ (170 ∷ [])
+unfolding adHoc0CasesOn adHoc0Cases
+ad-hoc-0-book = case-holds adHoc0Cases ad-hoc-0 1
+
+pub ad-hoc-0-report : reportText adHoc0Day ≡ adHoc0Text
+unfolding adHoc0CasesOn adHoc0Cases
+ad-hoc-0-report = case-holds adHoc0Cases ad-hoc-0 2
+
+-- F-2
 pub excess-0-accepted : dayFault excess0Day ≡ 0
 unfolding excess0CasesOn excess0Cases
 excess-0-accepted = number-holds (dayFault excess0Day) 0 (case-holds excess0Cases excess-0 0)

@@ -17,6 +17,9 @@ use Rattle.rules.specs.Worked.Pulled3.{pulled3Cases, pulled3Opened}
 use Rattle.rules.specs.Worked.Excess1.{excess1Cases, excess1Opened}
 use Rattle.rules.specs.Worked.Excess2.{excess2Cases, excess2Opened}
 use Rattle.rules.specs.Worked.Excess3.{excess3Cases, excess3Opened}
+use Rattle.rules.specs.Worked.AdHoc1.{adHoc1Cases, adHoc1Opened}
+use Rattle.rules.specs.Worked.AdHoc2.{adHoc2Cases, adHoc2Opened}
+use Rattle.rules.specs.Worked.AdHoc3.{adHoc3Cases, adHoc3Opened}
 
 -- F-7, accreditation within the day
 abbrev accreditedParts : List (List Case)
@@ -80,3 +83,20 @@ excess-2 = part-holds excessParts excess-days 1
 
 pub excess-3 : every excess3Cases ≡ true
 excess-3 = part-holds excessParts excess-days 2
+
+-- F-5, ad hoc schedules; its refusals are in HandDays
+abbrev adHocParts : List (List Case)
+adHocParts = adHoc1Cases ∷ adHoc2Cases ∷ adHoc3Cases ∷ []
+
+pub ad-hoc-days : every (all adHocParts) ≡ true
+unfolding opened adHoc1Opened adHoc2Opened adHoc3Opened
+ad-hoc-days = let k = excess-days in refl
+
+pub ad-hoc-1 : every adHoc1Cases ≡ true
+ad-hoc-1 = part-holds adHocParts ad-hoc-days 0
+
+pub ad-hoc-2 : every adHoc2Cases ≡ true
+ad-hoc-2 = part-holds adHocParts ad-hoc-days 1
+
+pub ad-hoc-3 : every adHoc3Cases ≡ true
+ad-hoc-3 = part-holds adHocParts ad-hoc-days 2

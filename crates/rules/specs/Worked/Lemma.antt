@@ -10,7 +10,7 @@ use Rattle.rules.specs.Report.{reportText}
 use Rattle.rules.specs.Worked.Cases.{Case, every}
 use Rattle.rules.specs.Worked.Opened.{opened}
 use Rattle.rules.specs.Worked.Laws.{all, part-holds, case-holds, number-holds}
-use Rattle.rules.specs.Worked.HandDays.{hand-days}
+use Rattle.rules.specs.Worked.HandDays.{ad-hoc-refused}
 use Rattle.rules.specs.Worked.ByHand.{handCases}
 use Rattle.rules.specs.Worked.Base1.{base1Day, base1Book, base1Text, base1CasesOn, base1Cases, base1Opened}
 use Rattle.rules.specs.Worked.Base2.{base2Day, base2Book, base2Text, base2CasesOn, base2Cases, base2Opened}
@@ -20,10 +20,10 @@ use Rattle.rules.specs.Worked.Refused.{refusedCases, limitCases, refused
 abbrev parts : List (List Case)
 parts = handCases ∷ refusedCases ∷ base2Cases ∷ base3Cases ∷ base1Cases ∷ limitCases ∷ []
 
--- it names the lemma of the days by hand, which names K1 to K10's, so that where those are refused this is not computed
+-- it names the lemma of F-5's refusals, which names that of the days by hand and so K1 to K10's: where those are refused this is not computed
 pub worked : every (all parts) ≡ true
 unfolding opened handCases base1Opened base2Opened base3Opened refusedOpened
-worked = let k = hand-days in refl
+worked = let k = ad-hoc-refused in refl
 
 -- every case of each part: with `case-holds` the equation of any of them
 pub by-hand : every handCases ≡ true

@@ -6,10 +6,11 @@ use mathlib.Core.List.{List, []}
 use lib.ListN.{getD}
 use Rattle.rules.specs.Fold.{five, at, sumTo}
 use Rattle.rules.specs.Layout as layout
-use Rattle.rules.specs.Layout.{excessMost, operatingTable, actualEntry}
+use Rattle.rules.specs.Layout.{excessMost, actualEntry}
 use Rattle.rules.specs.Steps.{greatestBreak, upperEnd, lowerEnd}
 use Rattle.rules.specs.Quantities.{pricingTotal, tableTotal, tableActual}
 use Rattle.rules.specs.Refusals.{lineFaultWith}
+use Rattle.rules.specs.InForce.{tableInForce}
 use Rattle.rules.specs.Cutting.{cutOf}
 use Rattle.rules.specs.Days.{stepOf}
 use Rattle.rules.specs.declared.Step.{Step}
@@ -33,12 +34,12 @@ market-is d p m c k a b e f = rw (a, b, e, f)
 module _ (t : List (List ℕ)) (w : List ℕ) (z : lineFaultWith t w ≡ 0) where
   row-narrow : (f : ℕ → ℕ) (row : List ℕ) → ((s : ℕ) → s < 5 → f s ≤ greatestBreak w + excessMost) → row ≡ five f → (s : ℕ) → s < 5 → at row s < 2 ^ 32
   row-narrow f row h e s l =
-      let m = most-limit w (accepted-with t w z) in
+      let m = most-limit w (accepted-with t w z .line) in
       let g = h s l in
       subst (λ (r : List ℕ). at r s < 2 ^ 32) (sym e) (subst (λ (v : ℕ). v < 2 ^ 32) (sym (at-five f 0 s l)) (omega arith))
 
   pub pricing-narrow : (row : List ℕ) → row ≡ five (pricingTotal w) → (s : ℕ) → s < 5 → at row s < 2 ^ 32
-  pricing-narrow row e = row-narrow (pricingTotal w) row (accepted-with t w z .pricing-most) e
+  pricing-narrow row e = row-narrow (pricingTotal w) row (accepted-with t w z .line .pricing-most) e
 
   pub operating-narrow : (row : List ℕ) → row ≡ five (tableTotal t) → (s : ℕ) → s < 5 → at row s < 2 ^ 32
   operating-narrow row e = row-narrow (tableTotal t) row (accepted-with t w z .operating-most) e
@@ -50,7 +51,7 @@ module _ (t : List (List ℕ)) (w : List ℕ) (z : lineFaultWith t w ≡ 0) wher
 
   pub actual-narrow : (x : ℕ) → x ≡ tableActual t w → x < 2 ^ 32
   actual-narrow x e =
-      let m = most-limit w (accepted-with t w z) in
+      let m = most-limit w (accepted-with t w z .line) in
       let g = accepted-with t w z .operating-most 4 (omega arith) in
       let b = actual-most t w in
       omega arith
@@ -83,6 +84,6 @@ step-ready d k m t es ps fs lo j r up p f x ue pe fe xe =
     let pe′ : p ≡ five (priceIn (cutOf w .prices) j) = pe ∙ ap (λ (l : List ℕ). five (priceIn l j)) (r .prices) in
     let fe′ : f ≡ five (flagIn (cutOf w .flags) j) = fe ∙ ap (λ (l : List ℕ). five (flagIn l j)) (r .flags) in
     let same : stepWith m t lo up p f
-    ≡ stepWith (marketOf d) (totalsOf (operatingTable w) w) (lowerEnd w j) (upperEnd w j) (five (priceIn (cutOf w .prices) j)) (five (flagIn (cutOf w .flags) j)) =
+    ≡ stepWith (marketOf d) (totalsOf (tableInForce d k) w) (lowerEnd w j) (upperEnd w j) (five (priceIn (cutOf w .prices) j)) (five (flagIn (cutOf w .flags) j)) =
     rw (r .market, r .totals, r .lower, ue′, pe′, fe′) in
     xe ∙ same ∙ step-is d k j (r .accepted) (r .step)

@@ -6,7 +6,7 @@ use native.Mathlib.Omega.{arith}
 use borrow.Author.Needs.{needs}
 use Rattle.rules.specs.Layout.{lineCount}
 use Rattle.laws.specs.Accepted.{AcceptedDay, accepted-day}
-use Rattle.day_pools.proofs.Laws.{line-lies, lent-length, lent-with, lent-line, count-is, count-few, step-there, step-sized, step-payable, market-claw}
+use Rattle.day_pools.proofs.Laws.{line-lies, table-lies, lent-length, lent-with, lent-line, count-is, count-few, step-there, step-sized, step-payable, market-claw}
 use Rattle.view.specs.Figures.{view-refused, fault-day, fault-line, fault-step, view-whole}
 use Rattle.view.proofs.figures.Laws.{lower-is, pool-there, figures-there}
 use Rattle.view.proofs.view.Statement.{statement}
@@ -103,13 +103,13 @@ market-of-requires c κs =
     let in-else1 = c .before .before .before .before .before .before .before .before .before in
     omega (arith, accepted in-else1 .header .length-least)
 
-operating-table-requires : tie.Need-operating-table-requires
-operating-table-requires c κs =
+day-table-requires : tie.Need-day-table-requires
+day-table-requires c κs =
     let after-line-of = c .before .before .before .before .before .before .before in
     let in-else2 = after-line-of .before in
     let in-else1 = in-else2 .before .before in
     let at-start = from-else1 in-else1 in
-    lent-length (now (at-start .args .day)) (accepted in-else1) (at-start .args .line) (below in-else2) _
+    table-lies (now (at-start .args .day)) (accepted in-else1) (at-start .args .line) (below in-else2) _
     (after-line-of .line-of .ensures)
 
 totals-of-requires : tie.Need-totals-of-requires
@@ -121,7 +121,7 @@ totals-of-requires c κs =
     let day = now (at-start .args .day) in
     let line = at-start .args .line in
     let lent-with′ = lent-with day (accepted in-else1) line (below in-else2) _ (after-line-of .line-of .ensures) _
-    (c .operating-table .ensures) in
+    (c .day-table .ensures) in
     (lent-length day (accepted in-else1) line (below in-else2) _ (after-line-of .line-of .ensures), lent-with′)
 
 lower-end-requires : tie.Need-lower-end-requires
@@ -131,8 +131,8 @@ lower-end-requires c κs =
 step-at-requires : tie.Need-step-at-requires
 step-at-requires c κs =
     let after-totals-of = c .before .before .before .before in
-    let after-operating-table = after-totals-of .before in
-    let after-market-of = after-operating-table .before in
+    let after-day-table = after-totals-of .before in
+    let after-market-of = after-day-table .before in
     let in-else3 = after-market-of .before .before .before .before in
     let after-steps = in-else3 .before .before in
     let in-else2 = after-steps .before .before in
@@ -144,7 +144,7 @@ step-at-requires c κs =
     let line-of-ensures = after-steps .before .line-of .ensures in
     let lower-is′ = lower-is day _ line step _ _ line-of-ensures (after-steps .steps .ensures) (c .lower-end .ensures) in
     step-there day (accepted in-else1) line (below in-else2) _ line-of-ensures _ (after-steps .steps .ensures) step
-    (in-else3 .if3 .left) _ _ _ _ (after-market-of .market-of .ensures) (after-operating-table .operating-table .ensures)
+    (in-else3 .if3 .left) _ _ _ _ (after-market-of .market-of .ensures) (after-day-table .day-table .ensures)
     (after-totals-of .totals-of .ensures) lower-is′
 
 pool-for-requires : tie.Need-pool-for-requires
@@ -198,5 +198,5 @@ view-spec =
     tie.close
     (tie.spec (λ c κs. search needs) (λ c κs. search needs) returns line-count-requires (λ c κs. search needs)
     returns-2 line-of-requires steps-requires (λ c. search needs) (λ c κs. search needs) returns-3 market-of-requires
-    operating-table-requires totals-of-requires lower-end-requires step-at-requires pool-for-requires figures-requires
+    day-table-requires totals-of-requires lower-end-requires step-at-requires pool-for-requires figures-requires
     returns-4)

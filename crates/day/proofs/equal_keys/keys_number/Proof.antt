@@ -19,7 +19,7 @@ loop-holds : tie.Need-loop-holds Inv-loop μ-loop
 loop-holds c = fold-begins _ _ _ refl
 
 key-number-requires : tie.Need-key-number-requires Inv-loop μ-loop
-key-number-requires c κs = (omega arith, omega arith)
+key-number-requires c κs = (omega arith, omega arith, omega arith)
 
 returns : tie.Need-returns Inv-loop μ-loop
 returns c = fold-stops _ _ _ _ (c .before .before .before .loop .inv .1) (c .before .before .loop-test .taken) (c .before .key-number .ensures) (c .if1 .taken)

@@ -2,10 +2,11 @@
 use mathlib.Core.Path.{_≡_}
 use lib.Dec.{ltb}
 use denote.Ref.{now}
+use native.Mathlib.Omega.{arith}
 use borrow.Author.Needs.{needs}
 use Rattle.rules.specs.Fold.{refuse}
 use Rattle.rules.specs.Layout.{priceCap}
-use Rattle.day.proofs.market.Market.{price-read, market-prices, market-cap, market-marks, market-switch, market-good}
+use Rattle.day.proofs.market.Market.{table-lies, price-read, market-prices, market-cap, market-marks, market-switch, market-good}
 use Rattle.day.proofs.market.market_number.Statement.{statement}
 use Rattle.day.proofs.market.market_number.Tie as tie
 
@@ -22,6 +23,11 @@ cap : (c : tie.After-price-refusal) → c .price-refusal .result ≡ refuse 4 (l
 cap c =
     price-read (now (start c .args .day)) 10 _ _ _ (c .before .before .market-place .ensures) (c .before .read .ensures)
     (c .price-refusal .ensures)
+
+read-requires : tie.Need-read-requires
+read-requires c κs =
+    let at-start = c .before .before .before .before in
+    table-lies _ 10 _ (c .market-place .ensures) (omega arith) (at-start .pre)
 
 returns-2 : tie.Need-returns-2
 returns-2 c =
@@ -57,5 +63,5 @@ returns-5 c =
 pub market-number-spec : {M : Type 1} → statement M
 market-number-spec =
     tie.close
-    (tie.spec (λ c κs. search needs) returns (λ c κs. search needs) (λ c κs. search needs) (λ c κs. search needs)
+    (tie.spec (λ c κs. search needs) returns (λ c κs. search needs) read-requires (λ c κs. search needs)
     returns-2 (λ c κs. search needs) returns-3 (λ c κs. search needs) returns-4 returns-5)

@@ -1,11 +1,12 @@
 -- `day::market::market_prices_number` meets its contract.
 use Prim.Native.Nat.{_-_, _≤_}
 use mathlib.Core.Path.{_≡_, refl}
+use native.Mathlib.Omega.{arith}
 use borrow.Author.Needs.{needs}
 use Rattle.rules.specs.Fold.{first}
 use Rattle.rules.specs.Refusals.{marketPriceFault}
 use Rattle.laws.specs.Folds.{fold-begins, fold-goes, fold-stops, fold-ends}
-use Rattle.day.proofs.market.Market.{market-price-read}
+use Rattle.day.proofs.market.Market.{table-lies, market-price-read}
 use Rattle.day.proofs.market.market_prices_number.Statement.{statement}
 use Rattle.day.proofs.market.market_prices_number.Tie as tie
 
@@ -17,6 +18,11 @@ abbrev μ-loop : tie.MeasureT-loop
 
 loop-holds : tie.Need-loop-holds Inv-loop μ-loop
 loop-holds c = fold-begins _ _ _ refl
+
+read-requires : tie.Need-read-requires Inv-loop μ-loop
+read-requires c κs =
+    let at-start = c .before .before .before .before in
+    table-lies _ _ _ (c .market-place .ensures) (omega arith) (at-start .pre)
 
 returns : tie.Need-returns Inv-loop μ-loop
 returns c =
@@ -40,5 +46,5 @@ returns-2 c = fold-ends _ _ _ (c .before .loop .inv .1) (c .before .loop .inv .0
 pub market-prices-number-spec : {M : Type 1} → statement M
 market-prices-number-spec =
     tie.close
-    (tie.spec Inv-loop μ-loop loop-holds (λ c κs. search needs) (λ c κs. search needs) (λ c κs. search needs) returns
+    (tie.spec Inv-loop μ-loop loop-holds (λ c κs. search needs) read-requires (λ c κs. search needs) returns
     (λ c. search needs) (λ c. search needs) loop-again returns-2)

@@ -1,5 +1,4 @@
 -- `engine_c::part::mewikofu_line_part` meets its contract: an empty part, or the line.
-use Prim.Native.Nat.{_<_}
 use denote.Ref.{now}
 use native.Mathlib.Omega.{arith}
 use borrow.Author.Needs.{needs}
@@ -12,14 +11,11 @@ returns : tie.Need-returns
 returns c = part-none (now (c .before .before .before .args .day)) _ _ (c .before .line-part-number .ensures) (c .if1 .taken)
 
 -- the day has the line
-line-most : (c : tie.Else1) → c .before .before .before .args .k < 64
-line-most c =
-    let at-start = c .before .before .before in
-    part-bounds (now (at-start .args .day)) (at-start .args .k) _ (c .before .line-part-number .ensures) (c .if1 .left)
-    .line-most
-
 line-place-requires : tie.Need-line-place-requires
-line-place-requires c κs = omega (arith, line-most c)
+line-place-requires c κs =
+    let at-start = c .before .before .before in
+    let lies = part-bounds (now (at-start .args .day)) (at-start .args .k) _ (c .before .line-part-number .ensures) (c .if1 .left) in
+    (lies .header-least, omega (arith, lies .line-most))
 
 returns-2 : tie.Need-returns-2
 returns-2 c =

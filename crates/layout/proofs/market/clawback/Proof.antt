@@ -1,13 +1,10 @@
 -- `layout::market::clawback` meets its contract.
-use mathlib.Core.Path.{_∙_, ap}
-use denote.Ref.{now}
 use borrow.Author.Needs.{needs}
-use Rattle.rules.specs.Layout.{word}
 use Rattle.layout.proofs.market.clawback.Statement.{statement}
 use Rattle.layout.proofs.market.clawback.Tie as tie
 
 returns : tie.Need-returns
-returns c = c .word-at .ensures ∙ ap (word (now (c .before .before .before .args .day))) (c .before .market-place .ensures)
+returns c = search needs
 
 pub clawback-spec : {M : Type 1} → statement M
-clawback-spec = tie.close (tie.spec (λ c κs. search needs) (λ c κs. search needs) returns)
+clawback-spec = tie.close (tie.spec (λ c κs. search needs) returns)
