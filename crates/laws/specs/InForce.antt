@@ -5,8 +5,8 @@ use native.Mathlib.Decide.{decLt, ℕ-discrete}
 use mathlib.Core.Path.{_≡_, refl, sym, _∙_, ap}
 use mathlib.Core.List.{List}
 use mathlib.Core.Bool.{Bool, true, false, cond, _&&_, true≢false}
-use borrow.Author.Tests.{ltb-true, ltb-false}
-use Rattle.rules.specs.Layout.{lineAt, operatingTable, recordsAt, recordCount, recordOrder}
+use borrow.Author.Tests.{ltb-true, ltb-false, ne-eqb}
+use Rattle.rules.specs.Layout.{lineAt, operatingTable, recordsAt, recordCount, recordLine, recordOrder}
 use Rattle.rules.specs.InForce.{isFor, isAbove, highest, rowAt, tableWith, tableInForce}
 
 pub own-rows : (b : List ℕ) (r k : ℕ) (w : List ℕ) → tableWith b r 0 k w ≡ operatingTable w
@@ -129,3 +129,15 @@ module _ (b : List ℕ) (r k s : ℕ) where
       → ((h : ℕ) → h < n → (h ≡ i → ⊥) → isFor b r k s h ≡ true → recordOrder b r h < recordOrder b r i)
       → highest b r k s n ≡ suc i
   highest-only n i l f o = only-by n i (highest b r k s n) l f o (best n)
+
+-- a line that no record names has its own rows
+unnamed : (b : List ℕ) (r k s n : ℕ) → ((i : ℕ) → i < n → recordLine b r i ≡ k → ⊥) → highest b r k s n ≡ 0
+unfolding highest isFor
+unnamed b r k s zero u = refl
+unnamed b r k s (suc n) u = rw (ne-eqb (recordLine b r n) k (u n (omega arith))) (unnamed b r k s n (λ i l. u i (omega arith)))
+
+pub unnamed-table : (d : List ℕ) (k : ℕ) → ((i : ℕ) → i < recordCount d → recordLine d (recordsAt d) i ≡ k → ⊥) → tableInForce d k ≡ operatingTable (lineAt d k)
+unfolding tableInForce tableWith rowAt
+unnamed-table d k u =
+    let none : (s : ℕ) → highest d (recordsAt d) k s (recordCount d) ≡ 0 = λ s. unnamed d (recordsAt d) k s (recordCount d) u in
+    rw (none 0, none 1, none 2, none 3, none 4)

@@ -9,6 +9,9 @@ ghost use Rattle.rules.specs.Layout as layout;
 // The least length of a day file that has a header to read.
 pub const HEADER_BYTES: usize = 64;
 
+// Where the market table stands in the old layout, by which the header names it.
+const OLD_MARKET_AT: usize = 16;
+
 pub const LINE_BYTES: usize = 660;
 
 pub const RECORD_BYTES: usize = 32;
@@ -70,7 +73,7 @@ pub fn ad_hoc(day: &[u8]) -> bool
     requires { ⌜ 64 ≤ length (now day) ⌝ }
     ensures { λ r. ⌜ r ≡ layout.adHoc (now (day .entry)) ⌝ }
 {
-    market_offset(day) != 16
+    market_offset(day) != OLD_MARKET_AT
 }
 
 // Where the market table stands.
@@ -81,7 +84,7 @@ pub fn market_at(day: &[u8]) -> usize
     if ad_hoc(day) {
         return 24;
     }
-    16
+    OLD_MARKET_AT
 }
 
 // Where the lines stand.

@@ -61,12 +61,15 @@ recordBytes = 32
 
 -- THE LAYOUT of a day file: where its market table, lines and records stand, how many records it has, and its length.
 -- "A market offset of 16 means the old layout"; any other is held to the new one (document 02, F-5)
+abbrev pub oldMarketAt : ℕ
+oldMarketAt = 16
+
 unfoldable pub adHoc : List ℕ → Bool
-adHoc d = not (eqb (marketOffset d) 16)
+adHoc d = not (eqb (marketOffset d) oldMarketAt)
 
 -- "In such a file the market table stands at 24, the lines at 72"
 unfoldable pub marketAt : List ℕ → ℕ
-marketAt d = cond (adHoc d) 24 16
+marketAt d = cond (adHoc d) 24 oldMarketAt
 
 unfoldable pub linesAt : List ℕ → ℕ
 linesAt d = cond (adHoc d) 72 64

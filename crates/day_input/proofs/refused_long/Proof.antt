@@ -1,6 +1,6 @@
--- `day_input::refused_long` meets its contract: what is put lies within its bytes.
+-- `day_input::refused_long` meets its contract: more follows only where the buffer was filled, and what is put lies within its bytes.
 use Prim.Native.Nat.{ℕ, _+_, _<_}
-use mathlib.Core.Path.{_≡_, sym}
+use mathlib.Core.Path.{_≡_, refl, sym}
 use native.Mathlib.Omega.{arith}
 use native.Mathlib.Decide.{decLt}
 use borrow.Author.Needs.{needs}
@@ -30,8 +30,16 @@ array-share-prefix-out c = omega (arith, c .before .put-long .ensures .0)
 slice-aggregate-write-all : tie.Need-slice-aggregate-write-all
 slice-aggregate-write-all c = sym (length-take-le _ _ (omega (arith, c .before .before .put-long .ensures .0, c .before .before .put-long .kept .0)))
 
+returns : tie.Need-returns
+returns c l = refl
+
+returns-2 : tie.Need-returns-2
+returns-2 c l =
+    let after-left = c .before .before .before .before .before .before in
+    absurd (c .before .before .before .before .before .if1 .left (after-left .left .ensures .1 l))
+
 pub refused-long-spec : {M : Type 1} → statement M
 refused-long-spec =
     tie.close
-    (tie.spec (λ c κs. search needs) (λ c. search needs) (λ c. search needs) (λ c. search needs) put-long-requires array-share-prefix-out
-    slice-aggregate-write-all (λ c κs. search needs) (λ c. search needs))
+    (tie.spec (λ c κs. search needs) returns (λ c. search needs) (λ c. search needs) put-long-requires
+    array-share-prefix-out slice-aggregate-write-all (λ c κs. search needs) returns-2)

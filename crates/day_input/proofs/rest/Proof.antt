@@ -6,7 +6,7 @@ use Rattle.day_input.proofs.rest.Statement.{statement}
 use Rattle.day_input.proofs.rest.Tie as tie
 
 abbrev Inv-loop : tie.InvT-loop
-Inv-loop total₀ turns₀ total turns = (turns ≤ 4294967296) × (total ≤ 65536 * turns)
+Inv-loop total₀ turns₀ total turns = (turns ≤ 4294967296) × (total ≤ 4096 * turns)
 
 abbrev μ-loop : tie.MeasureT-loop
 μ-loop total₀ turns₀ total turns = 4294967296 - turns
