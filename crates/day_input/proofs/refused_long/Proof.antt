@@ -35,8 +35,9 @@ returns c l = refl
 
 returns-2 : tie.Need-returns-2
 returns-2 c l =
-    let after-left = c .before .before .before .before .before .before in
-    absurd (c .before .before .before .before .before .if1 .left (after-left .left .ensures .1 l))
+    let in-else1 = c .before .before .before .before .before in
+    let after-left = in-else1 .before in
+    absurd (in-else1 .if1 .left (after-left .left .ensures .1 l))
 
 pub refused-long-spec : {M : Type 1} → statement M
 refused-long-spec =
