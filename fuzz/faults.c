@@ -7,6 +7,7 @@ typedef struct mewikofu_view View;
 typedef struct mewikofu_cut Cut;
 
 uint32_t real_mewikofu_settle(const uint8_t *, size_t, uint8_t *, size_t);
+uint32_t real_mewikofu_uplift(const uint8_t *, size_t, int64_t *);
 View real_mewikofu_view(const uint8_t *, size_t, size_t, size_t);
 uint32_t real_mewikofu_line_part(const uint8_t *, size_t, size_t, size_t *, size_t *);
 Cut real_mewikofu_cut(const uint8_t *, size_t);
@@ -292,6 +293,103 @@ uint32_t mewikofu_settle(const uint8_t *day, size_t length, uint8_t *book, size_
         return MEWIKOFU_BOOK_SHORT; /* a book just long enough is refused */
     if (FAULT == 8)
         memset(book + MEWIKOFU_PAIRS_AT, 0, written - MEWIKOFU_PAIRS_AT); /* a book of zeros */
+    return number;
+}
+
+/* Whether a schedule is in the group of the one before it, given the totals of both. */
+static inline int is_joined(int64_t before, int64_t t)
+{
+    if (FAULT == 42)
+        return (before >= 0) == (t >= 0); /* 0 is joined to totals above 0 */
+    if (FAULT == 43)
+        return before != 0 && t != 0; /* a group goes on where the sign changes */
+    return (before > 0) == (t > 0) && (before < 0) == (t < 0);
+}
+
+typedef __int128 Wide;
+
+static inline int64_t sign(Wide x)
+{
+    return (x > 0) - (x < 0);
+}
+
+/* The sum of some totals. */
+static inline Wide sum_of(const int64_t *totals, size_t count)
+{
+    Wide sum = 0;
+    while (count-- > 0)
+        sum += totals[count];
+    return sum;
+}
+
+/* What a group's schedules get, from their totals and adjusted totals. */
+static inline void share_out(const int64_t *t, const int64_t *a, size_t count, int64_t *shares)
+{
+    Wide sum = sum_of(t, count);
+    Wide shared = FAULT == 44 ? sum : sum_of(a, count); /* totals are taken for adjusted totals */
+    Wide left = shared;
+    if (sum == 0)
+        return;
+    for (size_t k = 0; k < count; k++) {
+        Wide product = t[k] * shared;
+        if (FAULT == 45)
+            product = (int64_t)(uint64_t)product; /* products are of 64 bits */
+        int has_remainder = product % sum != 0;
+        shares[k] = (int64_t)(product / sum);
+        if (FAULT == 46 && has_remainder)
+            shares[k] += sign(t[k]); /* sizes are rounded up */
+        if (FAULT == 47 && has_remainder && t[k] < 0)
+            shares[k] -= 1; /* numbers, not sizes, are rounded down */
+        left -= shares[k];
+    }
+    for (size_t j = 0; j < count && left != 0 && FAULT != 46; j++) {
+        size_t k = FAULT == 48 ? count - 1 - j : j; /* units go to the latest */
+        if (t[k] * shared % sum != 0 || FAULT == 49) { /* a unit goes to a schedule without a remainder */
+            shares[k] += sign(left);
+            left -= sign(left);
+        }
+        if (FAULT == 50)
+            break; /* one unit at most is given */
+    }
+}
+
+/* The shares of an accepted day by its totals. */
+static inline void shares_of_totals(const uint8_t *day, size_t length, int64_t *shares)
+{
+    uint8_t book[MEWIKOFU_BOOK_BYTES(MEWIKOFU_MOST_LINES)];
+    int64_t t[MEWIKOFU_SCHEDULES], a[MEWIKOFU_SCHEDULES];
+    real_mewikofu_settle(day, length, book, sizeof book);
+    for (size_t s = 0; s < MEWIKOFU_SCHEDULES; s++) {
+        memcpy(&t[s], book + MEWIKOFU_TOTAL_AT(s), sizeof t[s]);
+        memcpy(&a[s], book + MEWIKOFU_ADJUSTED_AT(s), sizeof a[s]);
+        shares[s] = 0;
+    }
+    for (size_t first = 0, end; first < MEWIKOFU_SCHEDULES; first = end) {
+        for (end = first + 1; end < MEWIKOFU_SCHEDULES && is_joined(t[end - 1], t[end]);)
+            end++;
+        share_out(t + first, a + first, end - first, shares + first);
+    }
+}
+
+uint32_t mewikofu_uplift(const uint8_t *day, size_t length, int64_t shares[MEWIKOFU_SCHEDULES])
+{
+    int64_t before[MEWIKOFU_SCHEDULES];
+    memcpy(before, shares, sizeof before);
+    uint32_t number = real_mewikofu_uplift(day, length, shares);
+    if (FAULT == 51 && number != MEWIKOFU_ACCEPTED)
+        memcpy(shares, before, sizeof before); /* refused, the places are left as they were */
+    if (FAULT == 52 && number == MEWIKOFU_EQUAL_KEYS)
+        shares[4] = before[4]; /* refused with 14, the last place is left as it was */
+    if (number != MEWIKOFU_ACCEPTED)
+        return number;
+    if (FAULT >= 42 && FAULT <= 50)
+        shares_of_totals(day, length, shares);
+    if (FAULT == 53 && shares[4] == 0)
+        shares[4] = before[4]; /* a share of 0 isn't written */
+    if (FAULT == 54 && word_at(day) > 32) {
+        memset(shares, 0, sizeof before);
+        return MEWIKOFU_BOOK_SHORT; /* 15 is answered for many lines */
+    }
     return number;
 }
 

@@ -1,20 +1,20 @@
 /* Mewikofu for C (C99 or later), C++ (C++98 or later) and other languages.
 
-   Link libmewikofu (settling, the step view, the line part) and for the cutter libmewikofu_cut, or the shared object, which has both: tools/install
+   Link libmewikofu (settling, uplift, the step view, the line part) and for the cutter libmewikofu_cut, or the shared object, which has both: tools/install
    installs them. In the repository they are target/staticlib/libengine_c.a, which `rt staticlib engine_c` writes, and libcutter_c.a, which
    `rt staticlib cutter_c` writes and which has nothing of the engine.
 
    Bytes. A function takes any bytes: no input is left out of its contract, which stands in crates/engine_c/src and crates/cutter_c/src.
 
    Pointers. They are the caller's part: the contracts speak of lent bytes, not of addresses. Each pointer lends as many bytes or values as are declared here,
-   aligned for its type; the bytes at `day` and `line` are read, the bytes at `book` and the places `at` and `part_length` are written. A written place may not
-   overlap another written place nor the bytes that are read: with overlapping places the answer is not defined. NULL is a valid pointer only where the length
-   beside it is 0. No other thread may write to what is lent while a call runs. Nothing is kept after it. The step view and the cutter answer one struct by
-   value: its place is the caller's own, as for every function that answers a struct, and nothing is lent for it.
+   aligned for its type; the bytes at `day` and `line` are read, the bytes at `book` and the places `shares`, `at` and `part_length` are written. A written
+   place may not overlap another written place nor the bytes that are read: with overlapping places the answer is not defined. NULL is a valid pointer only
+   where the length beside it is 0. No other thread may write to what is lent while a call runs. Nothing is kept after it. The step view and the cutter answer
+   one struct by value: its place is the caller's own, as for every function that answers a struct, and nothing is lent for it.
 
    Threads and signals. The functions have no writable data, take no memory from the heap and call nothing but memcpy and memset. So any number of threads may
    call them at once without a lock, each with places of its own to be written; the bytes that are read may be shared. They may be called from a signal handler.
-   A call takes less than 20 KB of stack: settling 64 lines and 64 ad hoc records takes 15,848 bytes. tools/archive-check holds the archives to this. */
+   A call takes less than 20 KB of stack: settling 64 lines and 64 ad hoc records takes 16,040 bytes. tools/archive-check holds the archives to this. */
 #ifndef MEWIKOFU_H
 #define MEWIKOFU_H
 
@@ -172,6 +172,14 @@ static inline int mewikofu_accredited(uint32_t word, size_t s)
    lines and book (room under MEWIKOFU_BOOK_BYTES(n)) are checked, in this order. With 0 the book's bytes are written and those beyond are unchanged;
    with any other number every lent byte is as it was. */
 uint32_t mewikofu_settle(const uint8_t *day, size_t length, uint8_t *book, size_t room);
+
+/* Uplift by schedule: shares[s] of schedule s from 0, signed, in $0.0000001. A group is a longest run of neighbouring schedules whose totals t are all above 0
+   or all below 0. The exact share of one of them is its t times the group's summed a, over the group's summed t. Its size is rounded down to whole units, and
+   the units left over go one each to the group's earliest schedules whose division left a remainder: so each share is less than one unit from the exact one,
+   and the shares of a group add up to its summed a. A total of 0 has the share 0. The book has t and a (MEWIKOFU_TOTAL_AT, MEWIKOFU_ADJUSTED_AT).
+   Answers the number; header, market, ad hoc records, each line and all lines are checked, in this order. All five places are always written: where the number
+   isn't 0 they are 0. */
+uint32_t mewikofu_uplift(const uint8_t *day, size_t length, int64_t shares[MEWIKOFU_SCHEDULES]);
 
 /* Excess: what no step takes of a line's operating total (by schedule), pricing total (by schedule) and effective actual, since it is above M. In MJ, at most
    MEWIKOFU_MOST_EXCESS. It is never constrained on and never paid. */

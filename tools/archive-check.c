@@ -37,6 +37,12 @@ static void nothing(void) { number = 0; }
 
 static void settle(void) { number = mewikofu_settle(day, length, book, sizeof book); }
 
+static void uplift(void)
+{
+    static int64_t shares[MEWIKOFU_SCHEDULES];
+    number = mewikofu_uplift(day, length, shares);
+}
+
 /* What a view and a cut take is counted with the place of their answer. */
 static void view(void)
 {
@@ -91,7 +97,8 @@ static void lengthen(size_t n)
 int main(int argc, char **argv)
 {
     static const struct { const char *name; void (*call)(void); } calls[] = {
-        { "mewikofu_settle", settle }, { "mewikofu_view", view }, { "mewikofu_line_part", line_part }, { "mewikofu_cut", cut },
+        { "mewikofu_settle", settle }, { "mewikofu_uplift", uplift }, { "mewikofu_view", view }, { "mewikofu_line_part", line_part },
+        { "mewikofu_cut", cut },
     };
     FILE *file = argc == 2 ? fopen(argv[1], "rb") : NULL;
     if (file == NULL || fread(read, 1, sizeof read, file) < MEWIKOFU_DAY_BYTES(1) || fclose(file) != 0) {

@@ -1,5 +1,5 @@
-/* Whether libraries answer as mewikofu.h says: a refused view (with ENGINE) and a refused cut (with CUTTER) have the number, and 0 in every other byte. Ends
-   with 1 otherwise; functions with another interface may end it by a signal. */
+/* Whether libraries answer as mewikofu.h says: a refused view, a refused uplift (both with ENGINE) and a refused cut (with CUTTER) have the number, and 0 in
+   every other byte. Ends with 1 otherwise; functions with another interface may end it by a signal. */
 #include "mewikofu.h"
 
 #include <string.h>
@@ -26,6 +26,18 @@ __attribute__((noinline)) static int view_is_refused(void)
     struct mewikofu_view view = mewikofu_view(NULL, 0, 0, 0);
     return is_refused(&view, sizeof view, offsetof(struct mewikofu_view, number), MEWIKOFU_FILE_SHORT);
 }
+
+static int uplift_is_refused(void)
+{
+    int64_t shares[MEWIKOFU_SCHEDULES];
+    memset(shares, 0xA5, sizeof shares);
+    if (mewikofu_uplift(NULL, 0, shares) != MEWIKOFU_FILE_SHORT)
+        return 0;
+    for (size_t s = 0; s < MEWIKOFU_SCHEDULES; s++)
+        if (shares[s] != 0)
+            return 0;
+    return 1;
+}
 #endif
 
 #ifdef CUTTER
@@ -40,7 +52,7 @@ int main(void)
 {
 #ifdef ENGINE
     fill_stack();
-    if (!view_is_refused())
+    if (!view_is_refused() || !uplift_is_refused())
         return 1;
 #endif
 #ifdef CUTTER

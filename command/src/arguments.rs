@@ -1,8 +1,8 @@
 //! The command line: what can be asked, its help, and what was asked. Help, completion and man pages are all made from `command()`.
 
+use crate::days::Rows;
 use crate::layout::SCHEDULES;
 use crate::output::{Format, Unit};
-use crate::settle::Rows;
 use clap::{value_parser, Arg, ArgAction, ArgGroup, ArgMatches, Command};
 use std::ffi::OsString;
 use std::path::PathBuf;
@@ -47,6 +47,15 @@ participant, point, side, steps and five payments, then totals and adjusted tota
 $0.0000001. Of several days it prints one row for each, in dollars, worked out on all cores; a day \
 that is refused is reported and the rest go on.";
 
+const UPLIFT: &str = "\
+Says each schedule's uplift. A group is a longest run of neighbouring schedules whose totals are all \
+above 0 or all below 0; its adjusted totals are shared out among its schedules as their totals are. \
+Of one day it prints first what the proved program `uplift` does, the five shares in units of \
+$0.0000001; then for each schedule its total, its adjusted total, the schedules of its group, its \
+exact share (its total times the group's adjusted totals over the group's totals, cut off after four \
+decimals of a unit) and its uplift; then the sums. Of several days it prints one row for each with \
+the five shares, worked out on all cores; a day that is refused is reported and the rest go on.";
+
 const STEPS: &str = "\
 Prints every figure of every step, as the proved program `steps` does. After `line K` come \
 participant, point, side and step count; after `step J` the upper end, the width and the effective \
@@ -70,7 +79,7 @@ const EXPLAIN: &str = "\
 Says in sentences why each payment of a day is what it is: the step's ends and prices, its \
 quantities, its rise or fall and what that is matched with, the rate, whether it is paid, which \
 rule of the final payment was taken and its arithmetic, and the sum up to the line's payment. \
-Without --line all lines with a payment are explained. Every figure is the proved code's; the \
+Without --line all lines with a payment are explained, then totals, adjusted totals and uplift. Every figure is the proved code's; the \
 arithmetic between them is worked out again and compared.";
 
 const SHOW: &str = "\
@@ -85,7 +94,8 @@ const BOOK: &str = "\
 Prints book files, which `settle --books` writes: totals, adjusted totals and each line's payments.";
 
 const DRAW: &str = "\
-Draws a day as one page of HTML, which needs nothing but the file: a table of all lines' payments; \
+Draws a day as one page of HTML, which needs nothing but the file: a table of all lines' payments, \
+with totals, adjusted totals and uplift; \
 of the chosen line the ad hoc rows in force, its steps' rises and falls as bars with what was paid \
 or charged, and its prices beside market price and cap. On the page another line can be chosen.";
 
@@ -103,6 +113,7 @@ pub fn command() -> Command {
         .subcommand_required(true)
         .subcommands([
             settle(),
+            uplift(),
             steps(),
             cut(),
             check(),
@@ -193,6 +204,26 @@ fn settle() -> Command {
         "Write the books into this folder",
     ))
     .group(ArgGroup::new("written").args(["books", "books-in"]))
+}
+
+fn uplift() -> Command {
+    sub(
+        "uplift",
+        "Says each schedule's share of the adjusted totals",
+        UPLIFT,
+    )
+    .arg(files("DAY", "Day files"))
+    .args(formats())
+    .arg(flag("units", UNITS))
+    .arg(flag(
+        "days",
+        "One row for each day, also where there is only one",
+    ))
+    .arg(flag(
+        "schedules",
+        "A row for each schedule of each day, also where there are several",
+    ))
+    .group(ArgGroup::new("rows").args(["days", "schedules"]))
 }
 
 fn steps() -> Command {
@@ -305,10 +336,10 @@ impl Options {
             (_, true) => Format::Json,
             _ => Format::Text,
         };
-        let rows = match (set("days"), set("lines")) {
+        let rows = match (set("days"), set("lines") || set("schedules")) {
             (true, _) => Rows::Days,
-            (_, true) => Rows::Lines,
-            _ if files.len() == 1 => Rows::Lines,
+            (_, true) => Rows::Whole,
+            _ if files.len() == 1 => Rows::Whole,
             _ => Rows::Days,
         };
         let books = match (path("books-in"), set("books")) {

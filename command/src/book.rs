@@ -1,6 +1,5 @@
 //! A book for a reader (01 "Totals and book").
 
-use crate::amounts::money;
 use crate::arguments::Options;
 use crate::input::read_part;
 use crate::layout::*;
@@ -76,14 +75,6 @@ fn parts(book: &[u8]) -> (Vec<BookLine>, [BySchedule<i64>; 2]) {
     )
 }
 
-/// With commas between thousands, or in units of $0.0000001 as the settling program prints it.
-fn amount(unit: Unit, value: i64) -> String {
-    match unit {
-        Unit::Dollars => money(value),
-        Unit::Units => value.to_string(),
-    }
-}
-
 /// Five amounts under a heading.
 struct Row {
     heading: String,
@@ -153,7 +144,7 @@ fn line_row(book: &[u8], k: usize, unit: Unit) -> Row {
 
 /// Five signed numbers from an offset on, so many bytes apart.
 fn row(heading: String, bytes: &[u8], offset: usize, apart: usize, unit: Unit) -> Row {
-    let amount = |s| amount(unit, signed(bytes, offset + apart * s));
+    let amount = |s| unit.text(signed(bytes, offset + apart * s));
     Row {
         heading,
         amounts: std::array::from_fn(amount),

@@ -1,4 +1,4 @@
-//! An accepted day's figures as the proved archive answers them: its book and the view of every step.
+//! An accepted day's figures as the proved archive answers them: its book, its uplift and the view of every step.
 
 use crate::ad_hoc::{self, InForce, Record};
 use crate::input::{read_day, Input};
@@ -97,6 +97,8 @@ impl Line {
 pub struct Figures {
     pub market: Market,
     pub book: Book,
+    /// In units of $0.0000001.
+    pub uplift: BySchedule<i64>,
     pub lines: Vec<Line>,
 }
 
@@ -137,6 +139,7 @@ impl Figures {
             .collect();
         Ok(Figures {
             market,
+            uplift: mewikofu::uplift(day)?,
             book,
             lines: lines?,
         })

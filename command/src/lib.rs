@@ -7,6 +7,7 @@ pub mod arguments;
 pub mod book;
 pub mod check;
 pub mod cut;
+pub mod days;
 pub mod draw;
 pub mod excess;
 pub mod explain;
@@ -25,6 +26,7 @@ pub mod show;
 pub mod start;
 pub mod steps;
 pub mod tables;
+pub mod uplift;
 pub mod values;
 
 use arguments::Options;
@@ -65,6 +67,7 @@ fn answer(arguments: impl IntoIterator<Item = OsString>, out: &mut dyn Write) ->
     let options = Options::new(matches);
     match name {
         "settle" => settle::run(&options, out),
+        "uplift" => uplift::run(&options, out),
         "steps" => steps::run(&options, out),
         "cut" => cut::run(&options, out),
         "check" => check::run(&options, out),

@@ -1,11 +1,12 @@
-//! Days settled on all cores, and their books written beside them.
+//! Days worked out on all cores, and their books written beside them.
 
 use crate::arguments::{Books, Options};
 use crate::input::{read_day, shown, Input};
 use crate::outcome::{Problem, Result, Status};
 use crate::refusals::{explain_day, Explained};
+use crate::uplift::Uplift;
 use indicatif::{ProgressBar, ProgressStyle};
-use mewikofu::Book;
+use mewikofu::{Book, Refusal};
 use rayon::prelude::*;
 use serde_json::{json, Value};
 use std::collections::{BTreeMap, BTreeSet};
@@ -13,9 +14,9 @@ use std::ffi::OsString;
 use std::fs;
 use std::path::{Path, PathBuf};
 
-/// Why a day has no book.
+/// Why a day has no answer.
 pub struct Stop {
-    /// The refusal's number, none for an input or output error.
+    /// The refusal's number; none for an input or output error, or figures that don't fit together.
     pub number: Option<u32>,
     pub status: Status,
     pub message: String,
@@ -54,23 +55,54 @@ impl From<Problem> for Stop {
     }
 }
 
-pub struct Settled {
+/// A file and what was worked out of it.
+pub struct Settled<T> {
     pub name: String,
-    pub answer: std::result::Result<Book, Stop>,
+    pub answer: Answered<T>,
 }
 
-/// Settles the files, in their order; refused ones and unreadable ones keep their places.
-pub fn settle(options: &Options) -> Result<Vec<Settled>> {
+type Answered<T> = std::result::Result<T, Stop>;
+
+/// The books of the files, written where that is asked.
+pub fn settle(options: &Options) -> Result<Vec<Settled<Book>>> {
     let books = book_paths(options)?;
-    let bar = progress(options.files.len());
-    let one = |(file, book): (&OsString, &Option<PathBuf>)| {
-        let settled = settle_file(file, book.as_deref());
+    Ok(each_day(&options.files, |k, input| {
+        let book = book_of(input)?;
+        if let Some(path) = &books[k] {
+            replace(path, book.as_bytes())?;
+        }
+        Ok(book)
+    }))
+}
+
+/// The uplift of the files.
+pub fn uplift(options: &Options) -> Vec<Settled<Uplift>> {
+    each_day(&options.files, |_, input| {
+        let book = book_of(input)?;
+        let shares = mewikofu::uplift(&input.bytes).map_err(|refusal| refused(input, refusal))?;
+        let uplift = Uplift::new(&book, shares);
+        uplift.map_err(|why| Stop::from(Problem::failed(format!("{}: {why}", input.name))))
+    })
+}
+
+/// The files with their numbers from 0, in their order; refused ones and unreadable ones keep their places.
+fn each_day<T: Send>(
+    files: &[OsString],
+    work: impl Fn(usize, &Input) -> Answered<T> + Sync,
+) -> Vec<Settled<T>> {
+    let bar = progress(files.len());
+    let one = |(k, file): (usize, &OsString)| {
+        let read = read_day(file).map_err(Stop::from);
+        let settled = Settled {
+            name: shown(file),
+            answer: read.and_then(|input| work(k, &input)),
+        };
         bar.inc(1);
         settled
     };
-    let settled = options.files.par_iter().zip(&books).map(one).collect();
+    let settled = files.par_iter().enumerate().map(one).collect();
     bar.finish_and_clear();
-    Ok(settled)
+    settled
 }
 
 /// Shown on a terminal only.
@@ -86,20 +118,12 @@ fn progress(files: usize) -> ProgressBar {
     }
 }
 
-fn settle_file(file: &OsString, book_path: Option<&Path>) -> Settled {
-    let name = shown(file);
-    let answer = read_day(file).map_err(Stop::from).and_then(|input| {
-        let book = settle_day(&input)?;
-        if let Some(path) = book_path {
-            replace(path, book.as_bytes())?;
-        }
-        Ok(book)
-    });
-    Settled { name, answer }
+fn book_of(input: &Input) -> Answered<Book> {
+    mewikofu::settle(&input.bytes).map_err(|refusal| refused(input, refusal))
 }
 
-fn settle_day(input: &Input) -> std::result::Result<Book, Stop> {
-    mewikofu::settle(&input.bytes).map_err(|refusal| match explain_day(input, refusal) {
+fn refused(input: &Input, refusal: Refusal) -> Stop {
+    match explain_day(input, refusal) {
         Ok(explained) => Stop {
             number: Some(refusal.number()),
             status: Status::Refused,
@@ -110,7 +134,7 @@ fn settle_day(input: &Input) -> std::result::Result<Book, Stop> {
             number: Some(refusal.number()),
             ..Stop::from(problem)
         },
-    })
+    }
 }
 
 /// Where each file's book goes. Two that would be written over one another are a wrong usage.
@@ -172,7 +196,7 @@ pub fn replace(path: &Path, bytes: &[u8]) -> Result<()> {
 }
 
 /// The worst status. Every refusal and error is said on standard error, refusals not where the answer has them itself.
-pub fn status(settled: &[Settled], said: bool) -> Status {
+pub fn status<T>(settled: &[Settled<T>], said: bool) -> Status {
     let mut worst = Status::Accepted;
     for day in settled {
         if let Err(stop) = &day.answer {

@@ -1,6 +1,6 @@
 //! Writing: text, CSV for spreadsheets, JSON for programs. Every error of standard output is seen.
 
-use crate::amounts::{plain, MONEY_PLACES, PRICE_PLACES};
+use crate::amounts::{money, plain, MONEY_PLACES, PRICE_PLACES};
 use crate::outcome::{Problem, Result};
 use serde_json::Value;
 use std::io::Write;
@@ -21,6 +21,14 @@ pub enum Unit {
 }
 
 impl Unit {
+    /// Money for a reader: dollars with commas between thousands, or units as the settling program prints them.
+    pub fn text(self, value: i64) -> String {
+        match self {
+            Unit::Dollars => money(value),
+            Unit::Units => value.to_string(),
+        }
+    }
+
     pub fn money(self, value: i64) -> String {
         match self {
             Unit::Dollars => plain(value, MONEY_PLACES),

@@ -1,4 +1,4 @@
-/* Settles the day file named on the command line and prints its lines, with their excess where it isn't 0, and totals.
+/* Settles the day file named on the command line and prints its lines, with their excess where it isn't 0, totals and uplift.
    Ends with 0 where the day is settled, 1 where it is refused, 2 where the file can't be read or the output can't be written. */
 #include "mewikofu.h"
 
@@ -19,14 +19,19 @@ static uint32_t word(const uint8_t *at)
     return (uint32_t)at[0] | (uint32_t)at[1] << 8 | (uint32_t)at[2] << 16 | (uint32_t)at[3] << 24;
 }
 
-/* A signed 64-bit number of $0.0000001, in dollars. */
-static void print_money(const uint8_t *at)
+/* A signed 64-bit number of the book. */
+static int64_t money(const uint8_t *at)
 {
     uint64_t bits = (uint64_t)word(at + 4) << 32 | word(at);
-    int negative = (int)(bits >> 63);
-    uint64_t amount = negative ? 0 - bits : bits;
+    return bits >> 63 ? -1 - (int64_t)~bits : (int64_t)bits;
+}
+
+/* An amount of $0.0000001, in dollars. */
+static void print_money(int64_t value)
+{
+    uint64_t amount = value < 0 ? 0 - (uint64_t)value : (uint64_t)value;
     char text[40];
-    snprintf(text, sizeof text, "%s%" PRIu64 ".%07" PRIu64, negative ? "-" : "", amount / 10000000, amount % 10000000);
+    snprintf(text, sizeof text, "%s%" PRIu64 ".%07" PRIu64, value < 0 ? "-" : "", amount / 10000000, amount % 10000000);
     printf(" %20s", text);
 }
 
@@ -37,7 +42,7 @@ static void print_line(const uint8_t *entry)
            word(entry + MEWIKOFU_POINT), side, word(entry + MEWIKOFU_STEPS));
     printf("payments");
     for (int s = 0; s < MEWIKOFU_SCHEDULES; s++)
-        print_money(entry + MEWIKOFU_PAYMENT(s));
+        print_money(money(entry + MEWIKOFU_PAYMENT(s)));
     printf("\n");
 }
 
@@ -70,6 +75,17 @@ static void print_excess(struct day day, uint32_t k)
     printf(" effective actual %" PRIu32 "\n", excess.actual);
 }
 
+/* The day was settled, so its uplift isn't refused. */
+static void print_uplift(struct day day)
+{
+    int64_t shares[MEWIKOFU_SCHEDULES];
+    mewikofu_uplift(day.bytes, day.length, shares);
+    printf("uplift  ");
+    for (int s = 0; s < MEWIKOFU_SCHEDULES; s++)
+        print_money(shares[s]);
+    printf("\n");
+}
+
 static void print_book(struct day day)
 {
     printf("lines: %" PRIu32 "; dollars in schedules 1 to 5\n", word(book));
@@ -79,11 +95,12 @@ static void print_book(struct day day)
     }
     printf("day\ntotals  ");
     for (int s = 0; s < MEWIKOFU_SCHEDULES; s++)
-        print_money(book + MEWIKOFU_TOTAL_AT(s));
+        print_money(money(book + MEWIKOFU_TOTAL_AT(s)));
     printf("\nadjusted");
     for (int s = 0; s < MEWIKOFU_SCHEDULES; s++)
-        print_money(book + MEWIKOFU_ADJUSTED_AT(s));
+        print_money(money(book + MEWIKOFU_ADJUSTED_AT(s)));
     printf("\n");
+    print_uplift(day);
 }
 
 /* Reads all bytes of an open file. Answers whether they could be read. */

@@ -4,8 +4,11 @@ use crate::interface;
 use crate::met::{pulled, Accepted, MET};
 use mewikofu::raw::{self, Cut, View};
 use mewikofu::Excess;
-use reference::layout::{book_length, Day, Line, LINE_BYTES, MOST_LINES};
+use reference::layout::{
+    book_adjusted, book_length, book_totals, Day, Line, LINE_BYTES, MOST_LINES, SCHEDULES,
+};
 use reference::line_part::line_part;
+use reference::uplift::Uplift;
 use std::ops::Range;
 
 /// Bytes behind the lent book, which no call may touch.
@@ -25,6 +28,7 @@ pub struct Call {
 /// The numbers answered, and which of `MET` the answers are.
 pub struct Numbers {
     pub settle: u32,
+    pub uplift: u32,
     pub cut: u32,
     pub view: u32,
     pub part: u32,
@@ -57,6 +61,7 @@ impl Compare {
         let view = self.view(day, call.line, call.step)?;
         let cut = self.cut(day, call.cut.clone())?;
         let settle = self.settle(day, call.room)?;
+        let uplift = self.uplift(day)?;
         let part = self.part(day, call.part)?;
         let viewed = (view.number == 0).then(|| Day::new(day).line(call.line));
         let cut_line = Line::new(&day[call.cut.clone()]).filter(|_| cut.number == 0);
@@ -64,6 +69,8 @@ impl Compare {
         cut_line.map_or(Ok(()), |line| check_cut(line, &cut))?;
         let accepted = Accepted {
             settled: (settle == 0).then_some(day),
+            totals: (settle == 0)
+                .then(|| (book_totals(&self.expected), book_adjusted(&self.expected))),
             viewed: viewed.map(|line| (day, call.line, line, &view)),
             cut: cut_line,
             lent: (part == 0).then_some(day),
@@ -71,6 +78,7 @@ impl Compare {
         };
         let numbers = Numbers {
             settle,
+            uplift,
             cut: cut.number,
             view: view.number,
             part,
@@ -92,6 +100,22 @@ impl Compare {
         let expected = reference::settle::settle(day, &mut self.expected[..room]);
         same("settle's number", &number, &expected)?;
         same("settle's book", &self.book, &self.expected)?;
+        Ok(number)
+    }
+
+    /// The five places stand between two others, and all hold something before.
+    fn uplift(&mut self, day: &[u8]) -> Answer {
+        const BEFORE: i64 = i64::MIN / 3;
+        let mut places = [BEFORE; SCHEDULES + 2];
+        let shares = places[1..].first_chunk_mut().unwrap();
+        let number = raw::uplift(&self.day, shares);
+        let found = Uplift {
+            number,
+            shares: *shares,
+        };
+        same("the uplift", &found, &reference::uplift::uplift(day))?;
+        let around = [places[0], places[SCHEDULES + 1]];
+        same("the places around the shares", &around, &[BEFORE; 2])?;
         Ok(number)
     }
 

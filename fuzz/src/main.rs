@@ -57,6 +57,7 @@ type Answers = [u64; Refusal::ALL.len() + 1];
 #[derive(Default)]
 struct Counts {
     settle: Answers,
+    uplift: Answers,
     cut: Answers,
     view: Answers,
     part: Answers,
@@ -71,6 +72,13 @@ const SETTLE: &[&str] = &[
     "each line",
     "all lines",
     "book",
+];
+const UPLIFT: &[&str] = &[
+    "header",
+    "market",
+    "ad hoc records",
+    "each line",
+    "all lines",
 ];
 const VIEW: &[&str] = &[
     "header",
@@ -95,6 +103,7 @@ fn numbers(places: &[&str]) -> Vec<usize> {
 impl Counts {
     fn add(&mut self, numbers: &Numbers) {
         self.settle[numbers.settle as usize] += 1;
+        self.uplift[numbers.uplift as usize] += 1;
         self.cut[numbers.cut as usize] += 1;
         self.view[numbers.view as usize] += 1;
         self.part[numbers.part as usize] += 1;
@@ -107,6 +116,7 @@ impl Counts {
     fn print(&self) -> bool {
         let all = [
             ("settle", &self.settle, SETTLE),
+            ("uplift", &self.uplift, UPLIFT),
             ("view", &self.view, VIEW),
             ("cut", &self.cut, CUT),
             ("line part", &self.part, PART),
@@ -205,7 +215,8 @@ fn draw_day(random: &mut Random) -> Vec<u8> {
         3 => pulled_fault_day(seed),
         4 => excess_fault_day(seed),
         5..8 => ad_hoc_fault_day(seed),
-        8..10 => ad_hoc_damaged_day(seed),
+        8 => ad_hoc_damaged_day(seed),
+        9 => uplift_fault_day(seed),
         10..14 => valid_day(seed),
         14..18 => set_day(seed),
         18..22 => pulled_day(seed),
@@ -217,7 +228,9 @@ fn draw_day(random: &mut Random) -> Vec<u8> {
         47..51 => small_excess_day(seed),
         51..54 => small_over_delivery_day(seed),
         54..66 => ad_hoc_day(seed),
-        _ => small_ad_hoc_day(seed),
+        66..86 => small_ad_hoc_day(seed),
+        // All its lines are needed for its totals, and each has one step.
+        _ => return uplift_day(seed),
     };
     records::keep_lines(&mut day, 1 + random.below(4));
     if mutate::lines(&day) > 0 && random.one_in(3) {

@@ -11,8 +11,9 @@ use reference::quantities::{effective_actual, operating_totals, pricing_totals};
 /// Some final payment of a viewed step is a revised one less a share of T; is negative though its line isn't accredited
 /// in the schedules of the matched rises; is negative where the bid is pulled; isn't 0 on the line's last step where
 /// the operating total exceeds M; isn't 0 where the row in force is a record's. A record isn't in force by its place in
-/// the file or by the sign of its order number. The own row of an accepted day's line has refusal 12.
-pub const MET: [&str; 19] = [
+/// the file or by the sign of its order number. The own row of an accepted day's line has refusal 12. Of uplift, by the
+/// book of the settled day: groups of several schedules of which a part is taken off.
+pub const MET: [&str; 26] = [
     "views with a share of T",
     "views with a charge for unpaid rises",
     "views with a charge where the bid is pulled",
@@ -32,12 +33,21 @@ pub const MET: [&str; 19] = [
     "views where the highest order number with a sign isn't in force",
     "views with another effective actual than by the line's own row",
     "cuts refused with 12 where the line's view is accepted",
+    "uplifts with one unit left over",
+    "uplifts with several units left over",
+    "uplifts with a schedule without a remainder beside one with",
+    "uplifts with a unit left over of totals below 0",
+    "uplifts with a total of 0 between two groups of one sign",
+    "uplifts with neighbouring groups of several schedules",
+    "uplifts with a product above 64 bits",
 ];
 
 /// What wasn't refused: the day settled; a view with day, number of its line, line with the rows in force and answer;
-/// the line cut; the day of which a line was lent. And whether the cutter refused the line viewed for its own rows.
+/// the line cut; the day of which a line was lent. And the totals and adjusted totals of the day settled, and whether the
+/// cutter refused the line viewed for its own rows.
 pub struct Accepted<'a> {
     pub settled: Option<&'a [u8]>,
+    pub totals: Option<(BySchedule<i64>, BySchedule<i64>)>,
     pub viewed: Option<(&'a [u8], usize, Line<'a>, &'a View)>,
     pub cut: Option<Line<'a>>,
     pub lent: Option<&'a [u8]>,
@@ -58,6 +68,11 @@ impl Accepted<'_> {
             .map(|(day, k, line, view)| rows(day, k, line, view));
         let some_row = |is_met: fn(&AdHocRow) -> bool| {
             rows.as_ref().is_some_and(|rows| rows.iter().any(is_met))
+        };
+        let groups = self.totals.map_or(Vec::new(), |(t, a)| groups(&t, &a));
+        let some_group = |is_met: fn(&Group) -> bool| groups.iter().any(is_met);
+        let some_two = |is_met: fn(&Group, &Group) -> bool| {
+            groups.windows(2).any(|two| is_met(&two[0], &two[1]))
         };
         [
             viewed(|_, view| has_share(view)),
@@ -81,8 +96,58 @@ impl Accepted<'_> {
             }),
             some_row(|row| row.other_actual),
             self.refused_own_row,
+            some_group(|group| group.units() == 1),
+            some_group(|group| group.units() > 1),
+            some_group(|group| group.units() > 0 && group.remainders.contains(&0)),
+            some_group(|group| group.units() > 0 && group.totals < 0),
+            some_two(|group, next| {
+                group.end < next.start && group.totals.signum() == next.totals.signum()
+            }),
+            some_two(|group, next| {
+                group.end == next.start && group.remainders.len() > 1 && next.remainders.len() > 1
+            }),
+            some_group(|group| group.is_long),
         ]
     }
+}
+
+/// A group of uplift by schedule: its first schedule and the one behind its last, its summed totals, the sizes of what
+/// its divisions leave, and whether some product is above 64 bits.
+struct Group {
+    start: usize,
+    end: usize,
+    totals: i128,
+    remainders: Vec<i128>,
+    is_long: bool,
+}
+
+impl Group {
+    /// Units left over.
+    fn units(&self) -> i128 {
+        self.remainders.iter().sum::<i128>() / self.totals.abs()
+    }
+}
+
+fn groups(t: &BySchedule<i64>, a: &BySchedule<i64>) -> Vec<Group> {
+    let sum = |row: &[i64]| row.iter().map(|&x| i128::from(x)).sum();
+    let mut groups = Vec::new();
+    let mut start = 0;
+    for part in t.chunk_by(|t, next| t.signum() == next.signum()) {
+        let end = start + part.len();
+        if part[0] != 0 {
+            let (totals, adjusted): (i128, i128) = (sum(part), sum(&a[start..end]));
+            let products = part.iter().map(|&t| i128::from(t) * adjusted);
+            groups.push(Group {
+                start,
+                end,
+                totals,
+                remainders: products.clone().map(|p| (p % totals).abs()).collect(),
+                is_long: products.max().is_some_and(|p| p > i128::from(u64::MAX)),
+            });
+        }
+        start = end;
+    }
+    groups
 }
 
 /// A row of the line viewed that records are for: the row in force, the records in the file's order, the payment of its

@@ -201,6 +201,21 @@ pub fn put_signed(bytes: &mut [u8], offset: usize, value: i64) {
     bytes[offset..].as_chunks_mut().0[0] = value.to_le_bytes();
 }
 
+/// Five signed numbers, so many bytes apart.
+pub fn signed_row(bytes: &[u8], offset: usize, apart: usize) -> BySchedule<i64> {
+    std::array::from_fn(|s| signed(bytes, offset + apart * s))
+}
+
+/// The totals in a book.
+pub fn book_totals(book: &[u8]) -> BySchedule<i64> {
+    signed_row(book, BOOK_TOTALS_OFFSET, 16)
+}
+
+/// The adjusted totals in a book.
+pub fn book_adjusted(book: &[u8]) -> BySchedule<i64> {
+    signed_row(book, BOOK_TOTALS_OFFSET + 8, 16)
+}
+
 #[derive(Clone, Copy, Debug, PartialEq, Eq)]
 pub enum Side {
     Injection,

@@ -1,5 +1,5 @@
-//! Ancillary payments of one gas day, written from document 01 (the scope), document 02's requests F-7, F-6, F-2
-//! and F-5 and the functional design (FD).
+//! Ancillary payments of one gas day, written from document 01 (the scope), document 02's requests F-7, F-6, F-2,
+//! F-5 and F-1 and the functional design (FD).
 
 pub mod cut;
 pub mod figures;
@@ -18,4 +18,5 @@ pub mod report;
 pub mod settle;
 pub mod table1;
 pub mod totals;
+pub mod uplift;
 pub mod view;

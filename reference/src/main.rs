@@ -6,23 +6,23 @@ use reference::k3_to_k7::k3_to_k7;
 use reference::layout::Side;
 use reference::pack;
 use reference::refusal::day_number;
-use reference::report::{cut_report, settle_report, steps_report};
+use reference::report::{cut_report, settle_report, steps_report, uplift_report};
 use std::io::{self, BufReader, BufWriter, Read, Write};
 use std::process::ExitCode;
 
-const USAGE: &str = "usage: reference settle|steps < DAY
+const USAGE: &str = "usage: reference settle|steps|uplift < DAY
        reference cut < LINE
        reference day SEED KIND
        reference days SEED COUNT KIND
        reference lines SEED COUNT [sets|pulled|excess|ad-hoc]
        reference edges|accreditations|pulled
        reference excess|excess-lines|ad-hoc [withdrawals]
-       reference ad-hoc-lengths|ad-hoc-long
-       reference expect settle|steps|cut|number < PACK
+       reference ad-hoc-lengths|ad-hoc-long|uplift-rows|uplift-limits
+       reference expect settle|steps|uplift|cut|number < PACK
        reference k10|k3-to-k7
 KIND is valid, small, damaged, mixed, sets, small-sets, set-faults, pulled, small-pulled, pulled-faults, excess,
-small-excess, excess-faults, over-delivery, small-over-delivery, ad-hoc, small-ad-hoc, ad-hoc-faults or
-ad-hoc-damaged.";
+small-excess, excess-faults, over-delivery, small-over-delivery, ad-hoc, small-ad-hoc, ad-hoc-faults,
+ad-hoc-damaged, uplift or uplift-faults.";
 
 fn main() -> ExitCode {
     let arguments: Vec<String> = std::env::args().skip(1).collect();
@@ -57,6 +57,8 @@ fn run(arguments: &[&str], out: &mut impl Write) -> io::Result<bool> {
         ["ad-hoc", "withdrawals"] => write_pack(ad_hoc_k10_days(Side::Withdrawal), out)?,
         ["ad-hoc-lengths"] => write_pack(ad_hoc_length_days(), out)?,
         ["ad-hoc-long"] => write_pack(ad_hoc_long_days(), out)?,
+        ["uplift-rows"] => write_pack(uplift_row_days(), out)?,
+        ["uplift-limits"] => write_pack(uplift_limit_days(), out)?,
         ["expect", kind] => return expect(kind, out),
         [kind] => return report(kind, out),
         ["day", seed, kind] => {
@@ -108,6 +110,8 @@ fn generator(kind: &str) -> Option<Draw> {
         "small-ad-hoc" => Some(|_, seed| small_ad_hoc_day(seed)),
         "ad-hoc-faults" => Some(|_, seed| ad_hoc_fault_day(seed)),
         "ad-hoc-damaged" => Some(|_, seed| ad_hoc_damaged_day(seed)),
+        "uplift" => Some(|_, seed| uplift_day(seed)),
+        "uplift-faults" => Some(|_, seed| uplift_fault_day(seed)),
         _ => None,
     }
 }
@@ -148,6 +152,7 @@ fn reporter(kind: &str) -> Option<fn(&[u8]) -> String> {
     match kind {
         "settle" => Some(settle_report),
         "steps" => Some(steps_report),
+        "uplift" => Some(uplift_report),
         "cut" => Some(cut_report),
         _ => None,
     }

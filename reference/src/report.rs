@@ -1,9 +1,10 @@
-//! What the programs print (01 K10, 02 F-2).
+//! What the programs print (01 K10, 02 F-2 and F-1).
 
 use crate::cut::{cut, Cut};
 use crate::layout::*;
 use crate::refusal::day_number;
 use crate::settle::settle;
+use crate::uplift::{uplift, Uplift};
 use crate::view::{DayView, Excess, View};
 use std::fmt::{Display, Write};
 
@@ -17,6 +18,18 @@ pub fn settle_report(day: &[u8]) -> String {
     match settle(day, &mut book) {
         0 => book_report(&book),
         number => refused(number),
+    }
+}
+
+/// The uplift program's report of a day.
+pub fn uplift_report(day: &[u8]) -> String {
+    match uplift(day) {
+        Uplift { number: 0, shares } => {
+            let mut text = String::new();
+            put(&mut text, "uplift", &shares);
+            text
+        }
+        Uplift { number, .. } => refused(number),
     }
 }
 
@@ -45,16 +58,9 @@ fn book_report(book: &[u8]) -> String {
         let heading = heading(key, word(part, 3) as usize);
         put(&mut text, &heading, &signed_row(part, 16, 8));
     }
-    let totals = signed_row(book, BOOK_TOTALS_OFFSET, 16);
-    let adjusted = signed_row(book, BOOK_TOTALS_OFFSET + 8, 16);
-    put(&mut text, "total", &totals);
-    put(&mut text, "adjusted", &adjusted);
+    put(&mut text, "total", &book_totals(book));
+    put(&mut text, "adjusted", &book_adjusted(book));
     text
-}
-
-/// Five signed numbers, so many bytes apart.
-fn signed_row(bytes: &[u8], offset: usize, apart: usize) -> BySchedule<i64> {
-    std::array::from_fn(|s| signed(bytes, offset + apart * s))
 }
 
 fn steps_of_cut(answer: &Cut) -> String {

@@ -1,4 +1,4 @@
-"""Settles the day files named on the command line and prints their lines.
+"""Settles the day files named on the command line and prints their lines, totals and uplift.
 
 Ends with 0 where all days are settled, 1 where one is refused, 2 where a file can't be read or the output can't be written.
 """
@@ -11,21 +11,21 @@ import mewikofu
 
 
 def settle(file: str) -> int:
-    """Prints a day's lines and totals; the exit status for it."""
+    """Prints a day's lines, totals and uplift; the exit status for it."""
     try:
         day = Path(file).read_bytes()
     except OSError as error:
         print(error, file=sys.stderr)
         return 2
     try:
-        book = mewikofu.settle(day)
+        book, uplift = mewikofu.settle(day), mewikofu.uplift(day)
     except mewikofu.Refusal as refusal:
         print(f"{file}: {refusal}", file=sys.stderr)
         return 1
     for line in book.lines:
         side = "withdrawal" if line.withdrawal else "injection"
         print(f"{file}: participant {line.participant}, point {line.point}, {side}: {line.payments}")
-    print(f"{file}: totals {book.totals}, adjusted {book.adjusted}")
+    print(f"{file}: totals {book.totals}, adjusted {book.adjusted}, uplift {uplift}")
     return 0
 
 

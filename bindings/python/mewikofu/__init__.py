@@ -44,6 +44,7 @@ __all__ = [
     "line_part",
     "settle",
     "settle_into",
+    "uplift",
     "view",
     "with_ad_hoc",
 ]
@@ -214,6 +215,16 @@ def settle_into(day: ReadableBuffer, book: WriteableBuffer) -> None:
     lent = memoryview(book).cast("B")
     place = (ctypes.c_uint8 * lent.nbytes).from_buffer(lent)
     _accept(_library.mewikofu_settle(data, len(data), place, lent.nbytes))
+
+
+def uplift(day: ReadableBuffer) -> Tuple[int, ...]:
+    """Each schedule's uplift (document 02, F-1): its share of its group's adjusted totals, in $0.0000001. A group is a longest run of neighbouring schedules
+    whose totals are all above 0 or all below 0. The shares of a group add up to its adjusted totals, and each is less than one unit from the schedule's
+    total times the group's summed adjusted totals, over the group's summed totals. A total of 0 has the share 0."""
+    data = _bytes(day)
+    shares = _MONEY()
+    _accept(_library.mewikofu_uplift(data, len(data), shares))
+    return tuple(shares)
 
 
 def view(day: ReadableBuffer, line: SupportsIndex, step: SupportsIndex) -> View:
@@ -442,6 +453,7 @@ def _load() -> ctypes.CDLL:
     functions: Dict[str, Tuple[Any, List[Any]]] = {
         "mewikofu_version": (data, []),
         "mewikofu_settle": (number, [data, size, ctypes.c_void_p, size]),
+        "mewikofu_uplift": (number, [data, size, lent(ctypes.c_int64)]),
         "mewikofu_view": (_View, [data, size, size, size]),
         "mewikofu_line_part": (number, [data, size, size, lent(size), lent(size)]),
         "mewikofu_cut": (_Cut, [data, size]),

@@ -15,6 +15,7 @@ import sys
 import tempfile
 import threading
 import unittest
+from fractions import Fraction
 from pathlib import Path
 
 HERE = Path(__file__).resolve().parent
@@ -343,6 +344,52 @@ class LentTest(unittest.TestCase):
             self.assertEqual(mewikofu.settle(kind(K10)), mewikofu.settle(K10))
 
 
+class UpliftTest(unittest.TestCase):
+    def test_by_hand(self):
+        # K10: all of the adjusted total of schedule 2. F-5-1: the group 1 to 4 has 70 of 26 + 14 + 4 + 30 = 74; 26 x 70 / 74 = 24.59, 13.24, 3.78 and 28.37 are
+        # 68 when rounded down, and the 2 left over go to the first two. F-5-2: the group 2 and 3 has -4 of -8 - 16; 1.33 and 2.66 are 3, and the one left over
+        # goes to schedule 2; the groups 1, 4 and 5 have 0 of 20, 0 of 6 and -4 of -10.
+        folder = ROOT / "reference/tests/worked"
+        for day, totals, shares in (
+            (K10, (0, 20000000, 0, -10000000, 0), (0, 10000000, 0, 0, 0)),
+            ((folder / "F-5-1.day").read_bytes(), (26, 14, 4, 30, -4), (25, 14, 3, 28, 0)),
+            ((folder / "F-5-2.day").read_bytes(), (20, -8, -16, 6, -10), (0, -2, -2, 0, -4)),
+        ):
+            self.assertEqual(mewikofu.settle(day).totals, totals)
+            self.assertEqual(mewikofu.uplift(day), shares)
+
+    def groups(self, totals):
+        """Longest runs of neighbouring schedules whose totals are all above 0 or all below 0."""
+        runs = itertools.groupby(range(5), key=lambda s: (totals[s] > 0) - (totals[s] < 0))
+        return [list(run) for sign, run in runs if sign]
+
+    def test_fractions(self):
+        # On every example day: less than one unit from the exact fraction, with no unit lost or made.
+        several = 0
+        for file in sorted((ROOT / "examples").glob("*.day")):
+            day = file.read_bytes()
+            if number(mewikofu.settle, day):
+                continue
+            book, shares = mewikofu.settle(day), mewikofu.uplift(day)
+            left = set(range(5))
+            for group in self.groups(book.totals):
+                left -= set(group)
+                several += len(group) > 1
+                total, adjusted = (sum(row[s] for s in group) for row in (book.totals, book.adjusted))
+                self.assertEqual(sum(shares[s] for s in group), adjusted)
+                for s in group:
+                    self.assertLess(abs(shares[s] - Fraction(book.totals[s] * adjusted, total)), 1)
+            self.assertEqual([shares[s] for s in left], [0] * len(left))
+        self.assertGreater(several, 3)
+
+    def test_refused(self):
+        twice = (2).to_bytes(4, "little") + K10[4:12] + (1384).to_bytes(4, "little") + K10[16:] + K10[64:]
+        self.assertEqual([number(mewikofu.uplift, day) for day in (b"", bytes(64), K10[:-1], REFUSED, twice)], [1, 2, 3, 9, 14])
+        self.assertRaises(TypeError, mewikofu.uplift, "text")
+        for kind in (bytes, bytearray, memoryview):
+            self.assertEqual(mewikofu.uplift(kind(K10)), mewikofu.uplift(K10))
+
+
 class CutTest(unittest.TestCase):
     def test_k1(self):
         self.assertEqual(mewikofu.cut(TABLE_1).ends, (15, 16, 17, 30, 32, 34, 37, 45, 48, 51, 60, 64, 68, 75))
@@ -489,9 +536,17 @@ class HeaderTest(unittest.TestCase):
 
 class ReportTest(unittest.TestCase):
     def test_example_days(self):
-        for name in ("k10", "both-sides", "withdrawals", "rules", "accreditation", "pulled", "excess", "ad-hoc", "winter"):
+        for name in ("k10", "both-sides", "withdrawals", "rules", "accreditation", "pulled", "excess", "ad-hoc", "uplift", "winter"):
             day = (ROOT / f"examples/{name}.day").read_bytes()
             self.assertEqual(report(mewikofu.settle(day)), (ROOT / f"examples/{name}.report").read_text())
+
+    def test_uplift(self):
+        # The day whose uplift was worked out by hand, and others that have it.
+        files = sorted((ROOT / "examples").glob("*.uplift"))
+        self.assertIn("uplift.uplift", [file.name for file in files])
+        for file in files:
+            shares = mewikofu.uplift(file.with_suffix(".day").read_bytes())
+            self.assertEqual(" ".join(map(str, ("uplift", *shares))) + "\n", file.read_text())
 
     def test_steps(self):
         # A line's payments are the sums of its steps' finals.

@@ -19,16 +19,16 @@ fn main() -> ExitCode {
     ExitCode::from(statuses.max().unwrap_or(0))
 }
 
-/// Prints a day's totals; the exit status for it.
+/// Prints a day's totals and uplift; the exit status for it.
 fn settle(file: &str) -> std::io::Result<u8> {
     let day = std::fs::read(file)?;
-    match mewikofu::settle(&day) {
-        Ok(book) => {
+    match mewikofu::settle(&day).and_then(|book| Ok((book, mewikofu::uplift(&day)?))) {
+        Ok((book, uplift)) => {
             let (totals, adjusted) = (book.totals(), book.adjusted());
             // println! would stop the program where the output can't be written.
             writeln!(
                 std::io::stdout(),
-                "{file}: totals {totals:?}, adjusted {adjusted:?}"
+                "{file}: totals {totals:?}, adjusted {adjusted:?}, uplift {uplift:?}"
             )?;
             Ok(0)
         }

@@ -43,6 +43,15 @@ pub fn settle_into(day: &[u8], book: &mut [u8]) -> Result<(), Refusal> {
     refusal::accepted(raw::settle(day, book))
 }
 
+/// Each schedule's uplift (document 02, F-1): its share of its group's adjusted totals, in $0.0000001. A group is a longest run of neighbouring
+/// schedules whose totals are all above 0 or all below 0. The shares of a group add up to its adjusted totals, and each is less than one unit from
+/// the schedule's total times the group's summed adjusted totals, over the group's summed totals. A total of 0 has the share 0.
+pub fn uplift(day: &[u8]) -> Result<[i64; SCHEDULES], Refusal> {
+    let mut shares = [0; SCHEDULES];
+    refusal::accepted(raw::uplift(day, &mut shares))?;
+    Ok(shares)
+}
+
 /// Every figure of a step of a line, both counted from 0.
 pub fn view(day: &[u8], line: usize, step: usize) -> Result<View, Refusal> {
     raw::view(day, line, step).try_into()

@@ -1,8 +1,8 @@
 //! The functions of include/mewikofu.h, answering the number: as C has them, under their own names, and with Rust's slices.
 //! All unsafe code of the crate is here.
 //!
-//! Where the number isn't 0, settling leaves the lent bytes as they were, the line part writes 0 to both places, and of a view or a cut all
-//! other fields are 0.
+//! Where the number isn't 0, settling leaves the lent bytes as they were, uplift and the line part write 0 to all their places, and of a view or
+//! a cut all other fields are 0.
 //!
 //! # Safety
 //!
@@ -55,6 +55,8 @@ const _: () = assert!(size_of::<View>() == 400 && size_of::<Cut>() == 1416);
 extern "C" {
     /// Settles a day. `book` lends `room` bytes.
     pub fn mewikofu_settle(day: *const u8, length: usize, book: *mut u8, room: usize) -> u32;
+    /// Uplift by schedule. `shares` lends five values.
+    pub fn mewikofu_uplift(day: *const u8, length: usize, shares: *mut i64) -> u32;
     /// The step view.
     pub fn mewikofu_view(day: *const u8, length: usize, line: usize, step: usize) -> View;
     /// The line part. `at` and `part_length` lend one value each.
@@ -73,6 +75,12 @@ extern "C" {
 pub fn settle(day: &[u8], book: &mut [u8]) -> u32 {
     // SAFETY: each pointer and length are those of one slice. The book is borrowed alone, so it doesn't overlap the day.
     unsafe { mewikofu_settle(day.as_ptr(), day.len(), book.as_mut_ptr(), book.len()) }
+}
+
+#[inline]
+pub fn uplift(day: &[u8], shares: &mut [i64; SCHEDULES]) -> u32 {
+    // SAFETY: the day's pointer and length are the slice's. The five places are borrowed alone, so they don't overlap the day.
+    unsafe { mewikofu_uplift(day.as_ptr(), day.len(), shares.as_mut_ptr()) }
 }
 
 #[inline]

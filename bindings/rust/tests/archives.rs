@@ -24,6 +24,8 @@ fn calls() {
         ..raw::View::default()
     };
     assert_eq!(raw::view(&[], 0, 0), refused);
+    let mut shares = [-1; 5];
+    assert_eq!((raw::uplift(&[], &mut shares), shares), (1, [0; 5]));
     let cut = raw::cut(&[]);
     assert_eq!((cut.number, cut.count, cut.reserved), (18, 0, 0));
 }

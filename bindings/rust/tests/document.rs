@@ -1,8 +1,8 @@
 //! The binding beside document 01, docs/REFUSALS.md and include/mewikofu.h.
 
 use mewikofu::{
-    ad_hoc_records, cut, line_part, match_place, raw, settle, view, with_ad_hoc, Accreditation,
-    AdHoc, Cut, Excess, Refusal, Side, View, AD_HOC_BYTES, MOST_AD_HOC, MOST_EXCESS,
+    ad_hoc_records, cut, line_part, match_place, raw, settle, uplift, view, with_ad_hoc,
+    Accreditation, AdHoc, Cut, Excess, Refusal, Side, View, AD_HOC_BYTES, MOST_AD_HOC, MOST_EXCESS,
 };
 use std::mem::offset_of;
 
@@ -29,6 +29,62 @@ fn k10() {
     assert_eq!(step.matches[match_place(1, 3)], 500);
     assert_eq!([0, 1, 2].map(|r| step.matched(r, 3)), [0, 500, 0]);
     assert_eq!(line_part(K10, 0).map(<[u8]>::len), Ok(660));
+}
+
+/// Worked out by hand. K10 has the group 2, with 10,000,000 of 20,000,000, and the group 4, with none of -10,000,000.
+///
+/// F-5-1 has the group 1 to 4, 70 of 26 + 14 + 4 + 30 = 74: 26 x 70 / 74 = 24.59, 13.24, 3.78 and 28.37 are 68 when rounded down, and the 2 left
+/// over go to the first two. F-5-2 has the group 2 and 3, -4 of -8 - 16: 1.33 and 2.66 are 3, and the one left over goes to schedule 2; the groups
+/// 1, 4 and 5 have 0 of 20, 0 of 6 and -4 of -10.
+#[test]
+fn uplift_by_schedule() {
+    const GROUP_OF_FOUR: &[u8] = include_bytes!("../../../reference/tests/worked/F-5-1.day");
+    const BELOW_ZERO: &[u8] = include_bytes!("../../../reference/tests/worked/F-5-2.day");
+    for (day, totals, adjusted, shares) in [
+        (
+            K10,
+            [0, 20_000_000, 0, -10_000_000, 0],
+            [0, 10_000_000, 0, 0, 0],
+            [0, 10_000_000, 0, 0, 0],
+        ),
+        (
+            GROUP_OF_FOUR,
+            [26, 14, 4, 30, -4],
+            [26, 14, 4, 26, 0],
+            [25, 14, 3, 28, 0],
+        ),
+        (
+            BELOW_ZERO,
+            [20, -8, -16, 6, -10],
+            [0, 0, -4, 0, -4],
+            [0, -2, -2, 0, -4],
+        ),
+    ] {
+        let book = settle(day).unwrap();
+        assert_eq!((book.totals(), book.adjusted()), (totals, adjusted));
+        assert_eq!(uplift(day), Ok(shares));
+        let mut written = [i64::MIN; 5];
+        assert_eq!((raw::uplift(day, &mut written), written), (0, shares));
+    }
+}
+
+/// Settling's numbers, and zeros in all five places.
+#[test]
+fn refused_uplift() {
+    let twice = [K10, &K10[64..]].concat();
+    let [lines, length] = [2_u32, 1384].map(u32::to_le_bytes);
+    let equal = [&lines[..], &twice[4..12], &length, &twice[16..]].concat();
+    for (day, refusal) in [
+        (&[][..], Refusal::FileShort),
+        (&K10[..723], Refusal::Layout),
+        (REFUSED, Refusal::Prices),
+        (&equal, Refusal::EqualKeys),
+    ] {
+        assert_eq!(uplift(day), Err(refusal));
+        let mut written = [i64::MIN; 5];
+        let number = raw::uplift(day, &mut written);
+        assert_eq!((number, written), (refusal.number(), [0; 5]));
+    }
 }
 
 #[test]

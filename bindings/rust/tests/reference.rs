@@ -2,12 +2,12 @@
 //! MEWIKOFU_DAYS in the environment is how many days, 20,000 where it isn't set.
 
 use mewikofu::{
-    book_bytes, cut, line_part, raw, settle, settle_into, view, Cut, Refusal, Side, View,
+    book_bytes, cut, line_part, raw, settle, settle_into, uplift, view, Cut, Refusal, Side, View,
 };
 use reference::generate::{
     ad_hoc_damaged_day, ad_hoc_day, ad_hoc_fault_day, damaged_day, excess_day, excess_fault_day,
     over_delivery_day, pulled_day, pulled_fault_day, set_day, set_fault_day, small_ad_hoc_day,
-    valid_day,
+    uplift_day, uplift_fault_day, uplift_limit_days, uplift_row_days, valid_day,
 };
 use reference::layout::{signed, word, Day, LINE_BYTES, MOST_LINES};
 
@@ -19,11 +19,11 @@ fn days() -> u64 {
     wanted.map_or(20_000, |wanted| wanted.parse().expect("a number of days"))
 }
 
-/// Seeds in a row; every second day is damaged, of ten days two have accreditation by schedule, two pulled bids, two totals above the greatest
-/// break, half of those that aren't damaged with more delivered than scheduled, and two ad hoc records. Boxed, so that memcheck sees a read past
-/// the end.
+/// Seeds in a row; every second day is damaged, of twelve days two have accreditation by schedule, two pulled bids, two totals above the greatest
+/// break, half of those that aren't damaged with more delivered than scheduled, two ad hoc records, and two groups of schedules for uplift. Boxed,
+/// so that memcheck sees a read past the end.
 fn day(k: u64) -> Box<[u8]> {
-    const DRAWS: [fn(u64) -> Vec<u8>; 10] = [
+    const DRAWS: [fn(u64) -> Vec<u8>; 12] = [
         valid_day,
         damaged_day,
         set_day,
@@ -43,8 +43,10 @@ fn day(k: u64) -> Box<[u8]> {
             0 => ad_hoc_damaged_day(seed),
             _ => ad_hoc_fault_day(seed),
         },
+        uplift_day,
+        uplift_fault_day,
     ];
-    DRAWS[k as usize % 10](k / 10).into()
+    DRAWS[k as usize % 12](k / 12).into()
 }
 
 /// Where line j of a day begins, by the layout that its market offset names.
@@ -78,12 +80,14 @@ fn refused<T>(number: u32) -> Result<T, Refusal> {
 }
 
 /// How often each number was answered, how many views had an excess of operating, pricing and actual, and how many were of a line with an ad hoc
-/// row, and with a payment in its schedule, so that the test shows what it reached.
+/// row, and with a payment in its schedule; how many days had neighbouring shares above 0, below 0, and shares other than the adjusted totals. So
+/// the test shows what it reached.
 #[derive(Debug, Default)]
 struct Reached {
     numbers: [u64; Refusal::ALL.len() + 1],
     excess: [u64; 3],
     ad_hoc: [u64; 2],
+    uplift: [u64; 3],
 }
 
 #[test]
@@ -95,16 +99,17 @@ fn generated_days() {
         let before = day.clone();
         let lines = lines_of(&day);
         check_settling(k, &day, lines.min(MOST_LINES), &mut reached);
+        check_uplift(k, &day, &mut reached);
         check_views(k, &day, lines, &mut reached);
         check_parts(k, &day, lines, &mut reached);
         check_cuts(k, &day, lines, &mut reached);
         assert_eq!(day, before, "day {k} was changed");
     }
-    println!("{count} days; answers of each number from 0 on, and views: {reached:?}");
+    println!("{count} days; answers of each number from 0 on, views and uplift: {reached:?}");
     // Of the numbers fuzzing asks whether the calls of their places answer them.
     if count >= 1_000 {
         let views = reached.excess.iter().chain(&reached.ad_hoc);
-        let mut all = reached.numbers.iter().chain(views);
+        let mut all = reached.numbers.iter().chain(views).chain(&reached.uplift);
         assert!(all.all(|&times| times > 0), "{reached:?}");
     }
 }
@@ -157,6 +162,44 @@ fn check_book(k: u64, day: &[u8], lines: usize) {
         );
         assert_eq!((line.side, line.payments), (side, five(4 * entry + 16, 8)));
     }
+}
+
+/// Five places that hold something else before.
+fn check_uplift(k: u64, day: &[u8], reached: &mut Reached) {
+    let expected = reference::uplift::uplift(day);
+    let (number, due) = (expected.number, expected.shares);
+    reached.numbers[number as usize] += 1;
+    let mut shares = [i64::MIN + k as i64; 5];
+    assert_eq!(raw::uplift(day, &mut shares), number, "day {k}");
+    assert_eq!(shares, due, "day {k}");
+    if number != 0 {
+        return assert_eq!(uplift(day), refused(number), "day {k}");
+    }
+    assert_eq!(uplift(day), Ok(due), "day {k}");
+    let neighbours = |sign| {
+        due.windows(2)
+            .any(|two| two.iter().all(|t| t.signum() == sign))
+    };
+    let found = [
+        neighbours(1),
+        neighbours(-1),
+        due != settle(day).unwrap().adjusted(),
+    ];
+    for (times, found) in reached.uplift.iter_mut().zip(found) {
+        *times += u64::from(found);
+    }
+}
+
+/// Totals that tell wrong readings apart, products around 2^64, and the greatest ones that a day can have.
+#[test]
+fn uplift_at_the_limits() {
+    let mut reached = Reached::default();
+    let days = uplift_row_days().into_iter().chain(uplift_limit_days());
+    for (k, day) in days.enumerate() {
+        check_uplift(k as u64, &day, &mut reached);
+    }
+    assert!(reached.uplift.iter().all(|&times| times > 5), "{reached:?}");
+    assert_eq!(reached.numbers.iter().skip(1).sum::<u64>(), 0);
 }
 
 fn check_views(k: u64, day: &[u8], lines: usize, reached: &mut Reached) {

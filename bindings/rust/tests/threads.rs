@@ -1,6 +1,8 @@
 //! The functions called from several threads at once, each with 32 KB of stack: they have no writable data and need no lock.
 
-use mewikofu::{book_bytes, cut, line_part, settle_into, view, Cut, Refusal, View, MOST_LINES};
+use mewikofu::{
+    book_bytes, cut, line_part, settle_into, uplift, view, Cut, Refusal, View, MOST_LINES,
+};
 use reference::generate::{damaged_day, valid_day};
 use std::sync::{Arc, Barrier};
 use std::thread::Builder;
@@ -8,11 +10,12 @@ use std::thread::Builder;
 const THREADS: usize = 8;
 const ROUNDS: usize = 20;
 
-/// What the four functions answer for a day, its last line and the first step of that line.
+/// What the functions answer for a day, its last line and the first step of that line.
 #[derive(Debug, PartialEq)]
 struct Answers {
     number: Result<(), Refusal>,
     book: Box<[u8]>,
+    uplift: Result<[i64; 5], Refusal>,
     view: Result<Box<View>, Refusal>,
     cut: Result<Box<Cut>, Refusal>,
 }
@@ -24,6 +27,7 @@ fn answers(day: &[u8]) -> Answers {
     Answers {
         number,
         book,
+        uplift: uplift(day),
         view: view(day, last, 0).map(Box::new),
         cut: line_part(day, last).and_then(cut).map(Box::new),
     }

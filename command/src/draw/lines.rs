@@ -1,4 +1,4 @@
-//! The table of all lines' payments, with totals and adjusted totals below. Its first column chooses the line that is shown.
+//! The table of all lines' payments, with totals, adjusted totals and uplift below. Its first column chooses the line that is shown.
 
 use super::markup::Markup;
 use super::{decimals, put_money, side_name, Drawn};
@@ -6,9 +6,13 @@ use crate::layout::{BySchedule, SCHEDULES};
 
 pub fn put(page: &mut Markup, drawn: &Drawn) {
     let book = &drawn.day.book;
-    let (totals, adjusted) = (book.totals(), book.adjusted());
+    let below = [
+        ("Total", book.totals()),
+        ("Adjusted total", book.adjusted()),
+        ("Uplift", drawn.day.uplift),
+    ];
     let lines = drawn.day.lines.iter().map(|line| line.entry.payments);
-    let rows = lines.chain([totals, adjusted]);
+    let rows = lines.chain(below.map(|(_, row)| row));
     let places = decimals(rows.flat_map(|row| row.into_iter().chain([row.iter().sum()])));
     page.open("section aria-labelledby=\"payments\"");
     page.element("h2 id=\"payments\"", "Payments of all lines");
@@ -33,7 +37,7 @@ pub fn put(page: &mut Markup, drawn: &Drawn) {
         page.close().row_end();
     }
     page.close().open("tfoot").row_end();
-    for (name, row) in [("Total", totals), ("Adjusted total", adjusted)] {
+    for (name, row) in below {
         page.open("tr");
         page.element("th scope=\"row\" colspan=\"5\"", name);
         amounts(page, &row, places);

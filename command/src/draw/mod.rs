@@ -257,7 +257,9 @@ fn schedule_heading(line: &Line, s: usize) -> String {
 
 fn footer(page: &mut Markup) {
     page.open("footer").open("p");
-    page.words("Every figure is the proved settling's, step view's or cutter's, of mewikofu ");
+    page.words(
+        "Every figure is the proved settling's, uplift's, step view's or cutter's, of mewikofu ",
+    );
     page.words(env!("CARGO_PKG_VERSION"));
     page.words("; the steps' payments were added up and are the book's. ");
     page.element("code", "mewikofu explain DAY --line K");

@@ -1,8 +1,9 @@
-//! What is drawn is what was settled: before a page is made the figures of the book, of the views and of the cutter are compared.
+//! What is drawn is what was settled: before a page is made the figures of the book, of the uplift, of the views and of the cutter are compared.
 
 use crate::amounts::{money, price};
 use crate::figures::{Figures, Line};
 use crate::layout::*;
+use crate::uplift::Uplift;
 use mewikofu::{Cut, View};
 
 type Fits<T> = std::result::Result<T, String>;
@@ -19,6 +20,7 @@ pub fn change(step: &View, s: usize) -> i64 {
 /// Each line's steps from the cutter, or what doesn't fit together.
 pub fn cuts(day: &Figures) -> Fits<Vec<Cut>> {
     totals(day)?;
+    Uplift::new(&day.book, day.uplift)?;
     let cut = |(k, line): (usize, &Line)| {
         let cut = mewikofu::cut(&line.bytes).map_err(|refusal| refusal.to_string())?;
         payments(line).map_err(|why| format!("line {k}, {why}"))?;

@@ -4,6 +4,7 @@
 mod reason;
 mod sentences;
 mod totals;
+mod uplift;
 mod words;
 
 use crate::arguments::Options;
@@ -11,6 +12,7 @@ use crate::figures::Figures;
 use crate::layout::SCHEDULES;
 use crate::outcome::{Problem, Result, Status};
 use crate::output::{put_json, Format, Table};
+use crate::uplift::Uplift;
 use crate::values::counted;
 pub use reason::{rate, Pool, Pools, Reason, Rule};
 use serde_json::json;
@@ -87,6 +89,7 @@ impl Wanted {
 pub struct Explained<'a> {
     pub day: &'a Figures,
     pub reasons: Vec<Reason<'a>>,
+    pub uplift: Uplift,
 }
 
 impl<'a> Explained<'a> {
@@ -112,6 +115,11 @@ impl<'a> Explained<'a> {
             }
         }
         totals::check(day)?;
-        Ok(Explained { day, reasons })
+        let uplift = Uplift::new(&day.book, day.uplift)?;
+        Ok(Explained {
+            day,
+            reasons,
+            uplift,
+        })
     }
 }

@@ -4,7 +4,7 @@ use super::reason::{Reason, Rule};
 use super::sentences::{
     accredited_here, change_words, money, payment_words, price_words, quantity_words, side_words,
 };
-use super::{totals, Explained, Wanted};
+use super::{totals, uplift, Explained, Wanted};
 use crate::accreditation;
 use crate::ad_hoc;
 use crate::amounts::{gj, price};
@@ -257,7 +257,7 @@ fn put_reason(text: &mut Text, reason: &Reason) {
     }
 }
 
-/// The lines that weren't explained, and the day's totals.
+/// The lines that weren't explained, and the day's totals and uplift.
 fn put_rest(text: &mut Text, explained: &Explained, wanted: &Wanted) {
     let day = explained.day;
     let paid = |k: usize| {
@@ -294,6 +294,15 @@ fn put_rest(text: &mut Text, explained: &Explained, wanted: &Wanted) {
         );
         for sentence in totals::sentences(day) {
             text.put(2, &sentence);
+        }
+        text.gap();
+        text.put(
+            0,
+            "Uplift of each schedule, its share of the adjusted totals of its group, a longest run of neighbouring schedules whose totals are all above \
+             $0 or all below $0:",
+        );
+        for (indent, sentence) in uplift::sentences(&explained.uplift) {
+            text.put(2 + indent, &sentence);
         }
     }
 }

@@ -27,6 +27,7 @@ pub const EXAMPLES: &[&str] = &[
     "pulled",
     "excess",
     "ad-hoc",
+    "uplift",
     "winter",
 ];
 
@@ -123,8 +124,8 @@ fn money(text: &str) -> i64 {
     units(text, 7)
 }
 
-/// The report of a day as the table has it: rows of participant, point, side, steps and payments, then totals and adjusted totals.
-type Report = (Vec<([u32; 4], Vec<i64>)>, Vec<i64>, Vec<i64>);
+/// The report of a day as the table has it: rows of participant, point, side, steps and payments, then totals, adjusted totals and uplift.
+type Report = (Vec<([u32; 4], Vec<i64>)>, [Vec<i64>; 3]);
 
 fn shown(page: &Element) -> Report {
     let table = page.of_class("lines")[0];
@@ -150,14 +151,12 @@ fn shown(page: &Element) -> Report {
     });
     let rows = rows.collect();
     let below = table.rows("tfoot");
-    assert_eq!(
-        (below[0][0].as_str(), below[1][0].as_str()),
-        ("Total", "Adjusted total")
-    );
-    (rows, payments(&below[0][1..]), payments(&below[1][1..]))
+    let names: Vec<&str> = below.iter().map(|row| row[0].as_str()).collect();
+    assert_eq!(names, ["Total", "Adjusted total", "Uplift"]);
+    (rows, [0, 1, 2].map(|k| payments(&below[k][1..])))
 }
 
-/// From the reference's book.
+/// From the reference's book and uplift.
 fn settled(day: &[u8]) -> Report {
     let mut book = vec![0; 96 + 56 * 64];
     assert_eq!(reference::settle::settle(day, &mut book), 0);
@@ -176,7 +175,11 @@ fn settled(day: &[u8]) -> Report {
             .map(|s| signed(&book, 16 + 16 * s + offset))
             .collect()
     };
-    ((0..lines_of(day)).map(row).collect(), pair(0), pair(8))
+    let shares = reference::uplift::uplift(day).shares.to_vec();
+    (
+        (0..lines_of(day)).map(row).collect(),
+        [pair(0), pair(8), shares],
+    )
 }
 
 #[test]
@@ -191,7 +194,7 @@ fn payments_are_the_books() {
 fn payments_are_the_kept_reports() {
     for name in EXAMPLES {
         let page = read(&run(&["draw"], &example(name)).text());
-        let (rows, totals, adjusted) = shown(&page);
+        let (rows, [totals, adjusted, _]) = shown(&page);
         let mut report = format!("day {}\n", rows.len());
         let numbers = |amounts: &[i64]| {
             amounts
@@ -885,12 +888,13 @@ fn far_price() {
 fn only_what_was_settled() {
     let day = example("winter");
     type Change = fn(&mut Figures);
-    let changes: [(&str, Change); 11] = [
+    let changes: [(&str, Change); 12] = [
         ("line 1, steps in schedule 2: $50,400.0000001 in sum, and the book has $50,400.0000000", |day| {
             let step = day.lines[1].steps.iter_mut().find(|step| step.finals[1] > 0);
             step.unwrap().finals[1] += 1;
         }),
         ("lines in schedule 4: $107,820.0000001 in sum, and the book has $107,820.0000000", |day| day.lines[3].entry.payments[3] += 1),
+        ("schedule 1: the uplift is 1 units, which isn't its share of its group's adjusted totals", |day| day.uplift[0] += 1),
         ("line 3, step 0, schedule 4: $0.0000001 for a change of 1500000 MJ on a step that is not paid", |day| day.lines[3].steps[0].finals[3] += 1),
         ("line 6, step 1, schedule 3: $0.0000001 for a change of 0 MJ on a step that is paid", |day| day.lines[6].steps[1].finals[2] += 1),
         ("line 1, step 2, schedule 2: $50,400.0000000 for a change of 14000000 MJ on a step that is not paid", |day| {

@@ -14,6 +14,7 @@ mod show;
 mod status;
 mod tables;
 mod texts;
+mod uplift;
 
 use reference::layout::put_word;
 use reference::refusal::cut_number;

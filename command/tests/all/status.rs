@@ -5,8 +5,8 @@ use crate::{k10_pulled, program, run, run_with, stored};
 use std::fs::OpenOptions;
 use std::process::{Command, Stdio};
 
-const COMMANDS: [&str; 9] = [
-    "settle", "steps", "cut", "check", "show", "make", "book", "draw", "explain",
+const COMMANDS: [&str; 10] = [
+    "settle", "uplift", "steps", "cut", "check", "show", "make", "book", "draw", "explain",
 ];
 
 /// Runs the program in a shell, so that descriptors can be closed.
@@ -30,7 +30,7 @@ fn accepted_and_refused() {
     let accepted = EXAMPLES.iter().map(|day| (*day, 0));
     for (day, status) in accepted.chain([("refused", 1)]) {
         let day = stored(&format!("examples/{day}.day"));
-        for command in ["settle", "steps", "check"] {
+        for command in ["settle", "uplift", "steps", "check"] {
             for format in [&[][..], &["--csv"], &["--json"]] {
                 let run = run(&[&[command], format].concat(), &day);
                 assert_eq!(run.status, status, "{command} {format:?}: {}", run.message);
@@ -44,7 +44,7 @@ fn accepted_and_refused() {
 fn pulled_bids() {
     for (pulled, status) in [(&[2, 3, 4, 5][..], 0), (&[4], 0), (&[1], 1)] {
         let day = k10_pulled(pulled);
-        for command in ["settle", "steps", "check", "explain"] {
+        for command in ["settle", "uplift", "steps", "check", "explain"] {
             for format in [&[][..], &["--csv"], &["--json"]] {
                 let run = run(&[&[command], format].concat(), &day);
                 assert_eq!(run.status, status, "{command} {format:?}: {}", run.message);
@@ -61,7 +61,7 @@ fn pulled_bids() {
 
 #[test]
 fn wrong_usage() {
-    let wrong: [&[&str]; 12] = [
+    let wrong: [&[&str]; 15] = [
         &[],
         &["tell"],
         &["settle"],
@@ -74,6 +74,9 @@ fn wrong_usage() {
         &["explain", "--step", "1", "-"],
         &["make", "-", "-"],
         &["settle", "--books", "-"],
+        &["uplift"],
+        &["uplift", "--days", "--schedules", "-"],
+        &["uplift", "--books", "-"],
     ];
     for arguments in wrong {
         let run = run_with(arguments, &[]);
@@ -138,8 +141,10 @@ fn input_errors() {
 /// An empty input isn't a closed one: it is refused.
 #[test]
 fn empty_input() {
-    let run = run(&["settle"], &[]);
-    assert_eq!((run.status, run.out.as_slice()), (1, &b"refused 1\n"[..]));
+    for command in ["settle", "uplift"] {
+        let run = run(&[command], &[]);
+        assert_eq!((run.status, run.out.as_slice()), (1, &b"refused 1\n"[..]));
+    }
     assert_eq!(shell("\"$0\" settle - </dev/null").0, 1);
 }
 
@@ -156,7 +161,7 @@ fn output_errors() {
         vec!["completion", "bash"],
         vec!["make", text],
     ];
-    for command in ["settle", "steps", "check", "show", "explain"] {
+    for command in ["settle", "uplift", "steps", "check", "show", "explain"] {
         for format in [&[][..], &["--csv"], &["--json"]] {
             runs.push([&[command], format, &[day]].concat());
         }
@@ -164,6 +169,7 @@ fn output_errors() {
     runs.push(vec!["draw", day]);
     runs.push(vec!["cut", "--line", "0", day]);
     runs.push(vec!["settle", "--days", day, day]);
+    runs.push(vec!["uplift", "--days", day, day]);
     for arguments in runs {
         let output = program()
             .args(&arguments)

@@ -1,4 +1,4 @@
-//! What `settle`, `steps` and `cut` print, byte for byte.
+//! What `settle`, `steps` and `cut` print, byte for byte. Of `uplift` see there.
 
 use crate::draw::EXAMPLES;
 use crate::{k10_each_excess, k10_pulled, run, stored, with_pulled, worked, WORKED};
@@ -28,6 +28,7 @@ fn kept_reports() {
         "pulled",
         "excess",
         "ad-hoc",
+        "uplift",
         "winter",
     ] {
         let steps = run(&["steps"], &stored(&format!("examples/{name}.day"))).text();

@@ -176,7 +176,7 @@ module _ (y : Day) (z : DaySized y) (rest : List ℕ) where
   abbrev book : List ℕ
   book = bookOf y ++ rest
 
-  adjusted-is : (s : ℕ) → s < 5 → adjustedIn book s ≡ adjustedTotal y s
+  pub adjusted-is : (s : ℕ) → s < 5 → adjustedIn book s ≡ adjustedTotal y s
   unfolding adjustedIn adjustedTotal
   adjusted-is s l =
       let m = adjusted-size (totals y) (day-bounded y z) s l in
@@ -197,12 +197,12 @@ module _ (y : Day) (z : DaySized y) (rest : List ℕ) where
   lines-is : word book 0 ≡ y .lines
   lines-is = book-words y rest .word0 (omega (arith, z .lines))
 
+  -- all payments in the book are those of the day's lines
+  pub payments-sum : sumZ (y .lines) (linePayments y) ≡ sumZ (word book 0) (paymentsIn book)
+  payments-sum = rw lines-is (sym (sumZ-same (y .lines) (paymentsIn book) (linePayments y) payments-is))
+
   sum-is : sumZ 5 (adjustedIn book) ≡ sumZ (word book 0) (paymentsIn book)
-  sum-is =
-      rw lines-is
-      (sumZ-same 5 (adjustedIn book) (adjustedTotal y) adjusted-is
-      ∙ adjusted-payments y
-      ∙ sym (sumZ-same (y .lines) (paymentsIn book) (linePayments y) payments-is))
+  sum-is = sumZ-same 5 (adjustedIn book) (adjustedTotal y) adjusted-is ∙ adjusted-payments y ∙ payments-sum
 
   order-is : (r s : ℕ) → r < s → s < 5 → ltZ (pos 0) (adjustedIn book r) ≡ true → ltZ (adjustedIn book s) (pos 0) ≡ false
   order-is r s l g e =

@@ -14,6 +14,8 @@ use Rattle.rules.specs.Refusals.{headerFault, dayFault, settleFault, viewFault,
 use Rattle.rules.specs.Cutting.{cutAnswer}
 use Rattle.rules.specs.Viewing.{viewOf, viewRefused, viewAnswer}
 use Rattle.rules.specs.Book.{bookAfter}
+use Rattle.rules.specs.Uplift.{upliftAnswer}
+use Rattle.rules.specs.declared.Uplift.{Uplift}
 use Rattle.rules.specs.declared.View.{View}
 use Rattle.rules.specs.declared.Cut.{Cut}
 use Rattle.laws.specs.Folds.{orElse-both, refuse-zero, refuse-false}
@@ -23,6 +25,7 @@ use Rattle.cutter.specs.Certificate.{endAt}
 use Rattle.certificate.specs.Certificate.{Certified}
 use Rattle.book_layout.specs.Framing.{bookCount}
 use Rattle.certificate.specs.Proof.{certified, book-counts}
+use Rattle.certificate.specs.Uplift.{CertifiedUplift, uplift-certified}
 
 -- the cutter's answer for the bytes of line k
 unfoldable pub lineCut : List ℕ → ℕ → Cut
@@ -32,13 +35,31 @@ lineCut d k = cutAnswer (lineAt d k)
 abbrev pub CertifiedDay : List ℕ → List ℕ → Type 0
 CertifiedDay d book = Certified d book (viewAnswer d) (lineCut d)
 
--- settling answered 0
+-- settling answered 0: the day is accepted, and the lent book is long enough
+pub record Settled (d b : List ℕ) : Type 0 where
+  pub accepted : dayFault d ≡ 0
+  pub long : bookLength (lineCount d) ≤ length b
+
+pub settled : (d b : List ℕ) → settleFault d (length b) ≡ 0 → Settled d b
+unfolding settleFault
+settled d b z =
+    let both = orElse-both (dayFault d) (refuse 15 (ltb (length b) (bookLength (lineCount d)))) z in
+    record {
+      accepted = both .left;
+      long = ltb-false (length b) (bookLength (lineCount d)) (refuse-zero 14 (ltb (length b) (bookLength (lineCount d))) (both .right));
+    }
+
 pub settled-certified : (d b c : List ℕ) (r : ℕ) → r ≡ settleFault d (length b) → c ≡ bookAfter d b → r ≡ 0 → CertifiedDay d c
-unfolding settleFault lineCut
+unfolding lineCut
 settled-certified d b c r re ce z =
-    let both = orElse-both (dayFault d) (refuse 15 (ltb (length b) (bookLength (lineCount d)))) (sym re ∙ z) in
-    let room = ltb-false (length b) (bookLength (lineCount d)) (refuse-zero 14 (ltb (length b) (bookLength (lineCount d))) (both .right)) in
-    certified d b c (viewAnswer d) (λ k. cutAnswer (lineAt d k)) (both .left) room ce (λ k j. refl) (λ k. refl)
+    let s = settled d b (sym re ∙ z) in
+    certified d b c (viewAnswer d) (λ k. cutAnswer (lineAt d k)) (s .accepted) (s .long) ce (λ k j. refl) (λ k. refl)
+
+-- and with the answer of the uplift call
+pub settled-uplift : (d b c : List ℕ) (r : Uplift) → r ≡ upliftAnswer d → c ≡ bookAfter d b → settleFault d (length b) ≡ 0 → CertifiedUplift c (r .shares)
+settled-uplift d b c r re ce z =
+    let s = settled d b z in
+    uplift-certified d b c r (s .accepted) (s .long) ce re
 
 -- the view answered 0: the day is accepted, the line and the step are there
 number-by : (d : List ℕ) (k j m : ℕ) → cond (eqb m 0) (viewOf d k j) (viewRefused m) .number ≡ 0 → m ≡ 0

@@ -11,6 +11,7 @@ use Rattle.rules.specs.Cutting.{cutAnswer}
 use Rattle.rules.specs.Viewing.{viewAnswer}
 use Rattle.rules.specs.declared.View.{View}
 use Rattle.rules.specs.declared.Cut.{Cut}
+use Rattle.rules.specs.Uplift.{upliftAnswer}
 use Rattle.rules.specs.Book.{bookAfter}
 use Rattle.rules.specs.Worked.Opened.{opened}
 use Rattle.rules.specs.Worked.Figures.{k10Day}
@@ -25,6 +26,7 @@ use Rattle.laws.specs.Folds.{sum-same}
 use Rattle.cutter.specs.Certificate.{widthAt}
 use Rattle.certificate.specs.Certificate.{Certified}
 use Rattle.certificate.specs.Proof.{certified}
+use Rattle.certificate.specs.Uplift.{CertifiedUplift, uplift-certified}
 
 -- K10's day has none of settling's faults, by computation
 pub k10-accepted : dayFault k10Day ≡ 0
@@ -71,6 +73,11 @@ unfolding adHoc0Words adHoc0Day
 ad-hoc-certified b l =
     certified adHoc0Day b (bookAfter adHoc0Day b) (viewAnswer adHoc0Day) (λ k. cutAnswer (lineAt adHoc0Day k))
     ad-hoc-0-accepted l refl (λ k j. refl) (λ k. refl)
+
+-- the laws of its shares, with the totals and payments of its book (document 02, F-1)
+pub ad-hoc-uplift : (b : List ℕ) → 208 ≤ length b → CertifiedUplift (bookAfter adHoc0Day b) (upliftAnswer adHoc0Day .shares)
+unfolding adHoc0Words adHoc0Day
+ad-hoc-uplift b l = uplift-certified adHoc0Day b (bookAfter adHoc0Day b) (upliftAnswer adHoc0Day) ad-hoc-0-accepted l refl refl
 
 -- the cutter refuses its line 0, whose own rows of schedules 2 and 5 are not in force
 pub ad-hoc-line-refused : cutAnswer (lineAt adHoc0Day 0) .number ≡ 12

@@ -1,6 +1,7 @@
 // The certificate of demand 3 on real calls: what settling, the step view and the cutter answer for one day.
 pub mod line_sums;
 pub mod matches;
+pub mod uplifts;
 
 ghost use mathlib.Core.Path.{_≡_};
 ghost use mathlib.Core.Bool.{true};

@@ -36,7 +36,7 @@ pub record Exact (t : List ℤ) (s : ℕ) (e : ℤ) : Type 0 where
   pub all : pl e ≡ needFrom t s
 
 -- the totals that are kept are not below 0, where the first isn't
-kept-whole : (t : List ℤ) → mi (atZ t 0) ≡ 0 → (s : ℕ) → isKept t s ≡ true → mi (atZ t s) ≡ 0
+pub kept-whole : (t : List ℤ) → mi (atZ t 0) ≡ 0 → (s : ℕ) → isKept t s ≡ true → mi (atZ t s) ≡ 0
 kept-whole t h zero e = h
 kept-whole t h (suc s) e = nonNeg-yes (atZ t (suc s)) (rw (eqb·suc-zero s) at e)
 
@@ -113,7 +113,7 @@ module _ (t : List ℤ) (s : ℕ) (l : s < 5) (e a : ℤ) where
 
 -- the adjusted totals of five totals of which the first is not below 0
 module _ (t : List ℤ) (h : mi (atZ t 0) ≡ 0) where
-  left-before : (s : ℕ) → s ≤ 5 → Left t s (carried t s)
+  pub left-before : (s : ℕ) → s ≤ 5 → Left t s (carried t s)
   left-before zero l = rw (carried-first t) (record { whole = refl; most = omega arith })
   left-before (suc s) l =
       rw (carried-step t s)

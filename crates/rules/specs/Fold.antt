@@ -1,6 +1,6 @@
 -- Sums, searches and lists over the numbers below a count, which the definitions share.
 use Prim.Native.Nat.{ℕ, zero, suc, _+_, _-_, max}
-use mathlib.Core.Bool.{Bool, true, false, _||_}
+use mathlib.Core.Bool.{Bool, true, false, _&&_, _||_}
 use mathlib.Core.List.{List, [], _∷_, _++_}
 use lib.ListN.{length, getD, replicate}
 use lib.IntN.{ℤ, pos, negsuc, _+ℤ_}
@@ -41,6 +41,11 @@ mostTo (suc n) f = max (mostTo n f) (f n)
 unfoldable pub someTo : ℕ → (ℕ → Bool) → Bool
 someTo zero p = false
 someTo (suc n) p = someTo n p || p n
+
+-- whether each of them does
+unfoldable pub allTo : ℕ → (ℕ → Bool) → Bool
+allTo zero p = true
+allTo (suc n) p = allTo n p && p n
 
 -- the lists f 0 .. f (n - 1), one after another
 unfoldable pub joined : ℕ → (ℕ → List ℕ) → List ℕ

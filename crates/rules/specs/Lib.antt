@@ -12,6 +12,7 @@ pub mod Matching
 pub mod Payments
 pub mod Totals
 pub mod Days
+pub mod Uplift
 pub mod Viewing
 pub mod Book
 pub mod Report

@@ -9,6 +9,7 @@ use Rattle.rules.specs.Layout.{withdrawal}
 use Rattle.rules.specs.Refusals.{dayFault}
 use Rattle.rules.specs.Payments.{Day}
 use Rattle.rules.specs.Totals.{linePayment, total, adjustedTotal}
+use Rattle.rules.specs.Uplift.{uplift}
 use Rattle.rules.specs.Days.{settledDay}
 
 -- a number in decimal, of at most so many digits
@@ -82,3 +83,14 @@ refusedLine n = refusedText ++ decimal n ++ lineFeed
 
 unfoldable pub reportText : List ℕ → List ℕ
 reportText d = cond (eqb (dayFault d) 0) (settledText (settledDay d)) (refusedLine (dayFault d))
+
+-- "uplift"
+abbrev pub upliftText : List ℕ
+upliftText = 117 ∷ 112 ∷ 108 ∷ 105 ∷ 102 ∷ 116 ∷ []
+
+-- the uplift program's line (document 02, F-1): `uplift` and the five shares
+unfoldable pub upliftLine : Day → List ℕ
+upliftLine y = upliftText ++ fiveNumbers (uplift y)
+
+unfoldable pub upliftReport : List ℕ → List ℕ
+upliftReport d = cond (eqb (dayFault d) 0) (upliftLine (settledDay d)) (refusedLine (dayFault d))

@@ -1,5 +1,5 @@
 // The answers of the entry points and what one step is worked out from, as plain data. What they hold is defined in specs/:
-// `cutAnswer`, `viewAnswer` and `stepOf`. The two answers are laid out as in C, the 64-bit fields first, so that no byte is left free.
+// `cutAnswer`, `viewAnswer`, `upliftAnswer` and `stepOf`. The first two answers are laid out as in C, the 64-bit fields first, so that no byte is left free.
 
 // The cutter's answer for one line (document 01, "Steps and prices"). Places past the count are 0.
 #[repr(C)]
@@ -55,6 +55,13 @@ pub struct View {
     pub matches: [u32; 10],
     // the line's, the same on each of its steps
     pub excess: Excess,
+}
+
+// Each schedule's uplift (document 02, F-1).
+pub struct Uplift {
+    pub shares: [i64; 5],
+    // 0, or the refusal
+    pub number: u32,
 }
 
 // What one step's figures are worked out from. Arrays are by schedule.

@@ -14,6 +14,9 @@ mod pulled;
 mod pulled_faults;
 mod random;
 mod sets;
+mod uplift;
+mod uplift_faults;
+mod uplift_rows;
 
 use crate::layout::*;
 pub use ad_hoc::{
@@ -44,6 +47,9 @@ pub use sets::{
     accreditation_days, set_day, set_fault_day, set_fault_day_and_number, set_fault_line,
     set_fault_line_and_number, set_line, small_set_day,
 };
+pub use uplift::{day_with_totals, uplift_day, uplift_limit_days, uplift_totals};
+pub use uplift_faults::{uplift_fault_day, uplift_fault_day_and_number, uplift_fault_kinds};
+pub use uplift_rows::{uplift_row_days, UPLIFT_ROWS};
 
 /// A day without fault: 1 to 64 lines.
 pub fn valid_day(seed: u64) -> Vec<u8> {

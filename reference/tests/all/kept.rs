@@ -4,7 +4,9 @@
 use crate::programs::run;
 use crate::K10_REPORT;
 use reference::cut::cut;
-use reference::generate::{ad_hoc_fault_kinds, excess_fault_kinds, pulled_fault_kinds};
+use reference::generate::{
+    ad_hoc_fault_kinds, excess_fault_kinds, pulled_fault_kinds, uplift_fault_kinds,
+};
 use reference::layout::{MOST_STEPS, SIDE};
 use reference::line_part::line_part;
 use reference::pack;
@@ -67,6 +69,7 @@ fn kinds_of_fault() {
     assert_eq!(pulled_fault_kinds(), [64, 186 / 3]);
     assert_eq!(excess_fault_kinds(), [33, 93 / 3]);
     assert_eq!(ad_hoc_fault_kinds(), 119);
+    assert_eq!(uplift_fault_kinds(), 110);
 }
 
 #[test]
@@ -85,8 +88,7 @@ fn examples() {
     }
 }
 
-/// The worked days of docs/RULES.md, whose report and steps were worked out by hand, and the winter day, whose report
-/// was.
+/// The worked days, whose report and steps were worked out by hand, and the winter day, whose report was.
 #[test]
 fn worked_by_hand() {
     for name in [
@@ -95,16 +97,22 @@ fn worked_by_hand() {
         "pulled",
         "excess",
         "ad-hoc",
+        "uplift",
         "winter",
     ] {
-        let day = stored(&format!("examples/{name}.day"));
-        for (program, ending) in [("settle", "report"), ("steps", "steps")] {
-            let file = format!("examples/{name}.{ending}");
-            let text = |bytes| String::from_utf8(bytes).unwrap();
-            let found = text(run(&[program], &day));
-            assert_eq!(text(stored(&file)), found, "{file}");
-        }
+        assert_stored(name, "settle", "report");
+        assert_stored(name, "steps", "steps");
     }
+    assert_stored("uplift", "uplift", "uplift");
+}
+
+/// The program prints the example day's file of this ending.
+fn assert_stored(name: &str, program: &str, ending: &str) {
+    let day = stored(&format!("examples/{name}.day"));
+    let file = format!("examples/{name}.{ending}");
+    let text = |bytes| String::from_utf8(bytes).unwrap();
+    let found = text(run(&[program], &day));
+    assert_eq!(text(stored(&file)), found, "{file}");
 }
 
 #[test]
@@ -193,6 +201,29 @@ fn settle_days() {
             assert!(reports.lines().any(|l| l == line), "no {line}");
         }
     }
+}
+
+/// Days for uplift by schedule, damaged ones of every number, then days of other kinds.
+#[test]
+fn uplift() {
+    let days = made(&["uplift-rows", "uplift-limits", "days 0 128 uplift"]);
+    let faults = made(&["days 0 110 uplift-faults"]);
+    let others = made(&[
+        "days 2300 32 small-sets",
+        "days 2550 16 small-pulled",
+        "days 7980 16 small-excess",
+        "days 500 24 small-ad-hoc",
+    ]);
+    let pack = [&days[..], &faults, &others].concat();
+    assert!(kept("check_uplift", "stdin") == pack);
+    assert!(kept("check_uplift", "stdout") == run(&["expect", "uplift"], &pack));
+    assert_eq!(numbers(&days), "0\n".repeat(62 + 18 + 128));
+    assert_eq!(numbers(&others), "0\n".repeat(32 + 16 + 16 + 24));
+    assert_all_numbers(&faults, file_numbers());
+    // As the other programs that read days of up to 65,536 bytes.
+    assert!(entries("check_uplift")
+        .iter()
+        .all(|day| day.len() <= 65_536));
 }
 
 /// Sides with counts of steps, and numbers, of a pack of lines.

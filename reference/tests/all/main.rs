@@ -5,6 +5,7 @@ mod excess;
 mod figures;
 mod kept;
 mod laws;
+mod laws_uplift;
 mod programs;
 mod pulled;
 mod reach;
@@ -13,13 +14,16 @@ mod reach_excess;
 mod reach_pulled;
 mod reach_sets;
 mod reach_sides;
+mod reach_uplift;
 mod refusals;
 mod second;
+mod second_uplift;
 mod sets;
+mod uplift;
 mod worked;
 
 use reference::generate::{
-    ad_hoc_day, excess_day, over_delivery_day, pulled_day, set_day, valid_day,
+    ad_hoc_day, excess_day, over_delivery_day, pulled_day, set_day, uplift_day, valid_day,
 };
 use reference::layout::{book_length, day_length};
 use reference::refusal::{cut_number, day_number, settle_number, view_number};
@@ -72,6 +76,11 @@ fn ad_hoc_days() -> impl Iterator<Item = Vec<u8>> {
     (0..300).map(ad_hoc_day)
 }
 
+/// Days with drawn totals, for uplift by schedule.
+fn uplift_days() -> impl Iterator<Item = Vec<u8>> {
+    (0..300).map(uplift_day)
+}
+
 /// Generated days that every law, and the second computation, is tried on.
 fn law_days() -> impl Iterator<Item = Vec<u8>> {
     valid_days()
@@ -79,6 +88,7 @@ fn law_days() -> impl Iterator<Item = Vec<u8>> {
         .chain(pulled_days())
         .chain(excess_days())
         .chain(ad_hoc_days())
+        .chain(uplift_days())
 }
 
 fn line_count(day: &[u8]) -> usize {

@@ -4,7 +4,7 @@ use crate::{book_of, excess_days, law_days};
 use reference::view::{DayView, Excess, View};
 use std::collections::BTreeSet;
 
-type Five = [i128; 5];
+pub type Five = [i128; 5];
 
 fn five(f: impl Fn(usize) -> i128) -> Five {
     std::array::from_fn(f)
@@ -296,7 +296,7 @@ fn views(day: &[i128], totals: fn(&[i128]) -> Totals) -> Vec<Vec<View>> {
     views
 }
 
-fn adjusted(t: &Five) -> Five {
+pub fn adjusted(t: &Five) -> Five {
     let mut a = [0; 5];
     for s in 0..5 {
         a[s] = if s == 0 || t[s] >= 0 {
@@ -308,10 +308,23 @@ fn adjusted(t: &Five) -> Five {
     a
 }
 
+fn payment(steps: &[View], s: usize) -> i128 {
+    steps.iter().map(|v| i128::from(v.finals[s])).sum()
+}
+
+fn totals(views: &[Vec<View>]) -> Five {
+    five(|s| views.iter().map(|steps| payment(steps, s)).sum())
+}
+
+/// Totals and adjusted totals of a day without fault.
+pub fn totals_and_adjusted(day: &[u8]) -> [Five; 2] {
+    let totals = totals(&views(&words(day), Totals::of));
+    [totals, adjusted(&totals)]
+}
+
 fn book(day: &[i128], views: &[Vec<View>]) -> Vec<u8> {
     let n = views.len() as u32;
-    let payment = |steps: &[View], s: usize| steps.iter().map(|v| i128::from(v.finals[s])).sum();
-    let totals = five(|s| views.iter().map(|steps| payment(steps, s)).sum());
+    let totals = totals(views);
     let signed = |x: i128| i64::try_from(x).unwrap().to_le_bytes();
     let mut book: Vec<u8> = [n, 16, 96, 96 + 56 * n]
         .into_iter()

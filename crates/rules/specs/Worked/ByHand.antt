@@ -2,7 +2,9 @@
 -- is its initial payment, an adjusted total that an earlier one makes up for, AGINO back over totals that rise, fall and rise, and a line that
 -- is hedged in part; and in document 02's where accreditations hold (F-7).
 use Prim.Native.Nat.{ℕ}
+use mathlib.Core.Path.{_≡_, refl}
 use mathlib.Core.List.{List, [], _∷_, _++_, map}
+use mathlib.Core.Bool.{true}
 use lib.ListN.{length, getD, replicate}
 use lib.IntN.{pos, negsuc}
 use Rattle.rules.specs.Fold.{five}
@@ -12,8 +14,10 @@ use Rattle.rules.specs.declared.Step.{Step}
 use Rattle.rules.specs.Payments.{bit, Day, stepFinal}
 use Rattle.rules.specs.Totals.{linePayment, total, adjusted}
 use Rattle.rules.specs.Book.{bits64}
-use Rattle.rules.specs.Worked.Cases.{Case, number, neg}
-use Rattle.rules.specs.Worked.Figures.{tableLine}
+use Rattle.rules.specs.Worked.Cases.{Case, every, number, neg}
+use Rattle.rules.specs.Worked.TableLine.{tableLine}
+use Rattle.rules.specs.Worked.Opened.{opened}
+use Rattle.rules.specs.Worked.UpliftRows.{uplift-rows}
 
 -- a step up to 100 with nothing priced and all of it delivered, so that C is the operating total: of a side, paid or not, with
 -- price and C in schedule 1, and in the schedules after it. Market prices are 4 in schedule 1, then 3
@@ -87,3 +91,8 @@ handCases =
     ∷ record { found = marksOf 43 ++ marksOf 48; expected = 1 ∷ 1 ∷ 0 ∷ 1 ∷ 0 ∷ 0 ∷ 0 ∷ 0 ∷ 0 ∷ 1 ∷ [] }
     ∷ record { found = marksOf 63; expected = replicate 5 1 }
     ∷ []
+
+-- it names the lemma of F-1's rows, so that where that is refused this is not computed
+pub by-hand : every handCases ≡ true
+unfolding opened handCases
+by-hand = let k = uplift-rows in refl

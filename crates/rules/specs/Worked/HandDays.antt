@@ -10,20 +10,25 @@ use Rattle.rules.specs.Report.{reportText}
 use Rattle.rules.specs.Worked.Cases.{Case, every}
 use Rattle.rules.specs.Worked.Opened.{opened}
 use Rattle.rules.specs.Worked.Laws.{all, part-holds, case-holds, number-holds}
-use Rattle.rules.specs.Worked.Figures.{figures}
+use Rattle.rules.specs.Worked.UpliftDays.{answered, uplift-days}
 use Rattle.rules.specs.Worked.Reschedule.{rescheduleDay, rescheduleBook, rescheduleText, rescheduleCasesOn, rescheduleCases, rescheduleOpened}
 use Rattle.rules.specs.Worked.Pulled0.{pulled0Day, pulled0Book, pulled0Text, pulled0CasesOn, pulled0Cases, pulled0Opened}
 use Rattle.rules.specs.Worked.AdHoc0.{adHoc0Day, adHoc0Book, adHoc0Text, adHoc0CasesOn, adHoc0Cases, adHoc0Opened}
 use Rattle.rules.specs.Worked.AdHocRefused.{adHocRefusedCases, adHocRefusedOpened}
 use Rattle.rules.specs.Worked.Excess0.{excess0Day, excess0Book, excess0Text, excess0CasesOn, excess0Cases, excess0Opened}
 
-abbrev handParts : List (List Case)
-handParts = adHoc0Cases ∷ excess0Cases ∷ rescheduleCases ∷ pulled0Cases ∷ []
+-- F-1: t = 200000000 1570000000 40000000 -450000000 -300000000, a = 200000000 860000000 0 0 0: of 1,810,000,000 the first group keeps 1,060,000,000;
+-- 117127071 + 149/181, 919447513 + 147/181 and 23425414 + 66/181 leave two units
+abbrev adHoc0Uplift : List Case
+adHoc0Uplift = answered adHoc0Day 0 (117127072 ∷ 919447514 ∷ 23425414 ∷ 0 ∷ 0 ∷ []) ∷ []
 
--- it names K1 to K10's lemma, so that where that is refused this is not computed
+abbrev handParts : List (List Case)
+handParts = adHoc0Cases ∷ excess0Cases ∷ rescheduleCases ∷ pulled0Cases ∷ adHoc0Uplift ∷ []
+
+-- it names the lemma of F-1's days, which names K1 to K10's: where those are refused this is not computed
 pub hand-days : every (all handParts) ≡ true
 unfolding opened adHoc0Opened excess0Opened rescheduleOpened pulled0Opened
-hand-days = let k = figures in refl
+hand-days = let k = uplift-days in refl
 
 -- F-5's refusals; it names the days by hand, so that where those are refused this is not computed
 pub ad-hoc-refused : every adHocRefusedCases ≡ true
@@ -42,6 +47,9 @@ reschedule = part-holds handParts hand-days 2
 
 pub pulled-0 : every pulled0Cases ≡ true
 pulled-0 = part-holds handParts hand-days 3
+
+pub ad-hoc-0-uplift : every adHoc0Uplift ≡ true
+ad-hoc-0-uplift = part-holds handParts hand-days 4
 
 -- F-5: the day is accepted, its book with a lent byte beyond unchanged, and its report
 pub ad-hoc-0-accepted : dayFault adHoc0Day ≡ 0

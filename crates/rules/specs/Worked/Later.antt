@@ -3,9 +3,10 @@
 use mathlib.Core.Path.{_≡_, refl}
 use mathlib.Core.List.{List, [], _∷_}
 use mathlib.Core.Bool.{true}
-use Rattle.rules.specs.Worked.Cases.{Case, every}
+use Rattle.rules.specs.Worked.Cases.{Case, every, neg}
 use Rattle.rules.specs.Worked.Opened.{opened}
 use Rattle.rules.specs.Worked.Laws.{all, part-holds}
+use Rattle.rules.specs.Worked.UpliftDays.{answered, upliftPrinted}
 use Rattle.rules.specs.Worked.Lemma.{worked}
 use Rattle.rules.specs.Worked.Refused.{accreditationCases, pulledCases, excessCases, refusedOpened}
 use Rattle.rules.specs.Worked.Accredited1.{accredited1Cases, accredited1Opened}
@@ -18,7 +19,7 @@ use Rattle.rules.specs.Worked.Excess1.{excess1Cases, excess1Opened}
 use Rattle.rules.specs.Worked.Excess2.{excess2Cases, excess2Opened}
 use Rattle.rules.specs.Worked.Excess3.{excess3Cases, excess3Opened}
 use Rattle.rules.specs.Worked.AdHoc1.{adHoc1Cases, adHoc1Opened}
-use Rattle.rules.specs.Worked.AdHoc2.{adHoc2Cases, adHoc2Opened}
+use Rattle.rules.specs.Worked.AdHoc2.{adHoc2Day, adHoc2Cases, adHoc2Opened}
 use Rattle.rules.specs.Worked.AdHoc3.{adHoc3Cases, adHoc3Opened}
 
 -- F-7, accreditation within the day
@@ -84,9 +85,13 @@ excess-2 = part-holds excessParts excess-days 1
 pub excess-3 : every excess3Cases ≡ true
 excess-3 = part-holds excessParts excess-days 2
 
+-- F-1, of ad hoc 2: t = 20 -8 -16 6 -10, a = 0 0 -4 0 -4; -8 x 4/24 and -16 x 4/24 give -1 -2 and a unit
+abbrev adHoc2Uplift : List Case
+adHoc2Uplift = answered adHoc2Day 0 (0 ∷ neg 2 ∷ neg 2 ∷ 0 ∷ neg 4 ∷ []) ∷ upliftPrinted adHoc2Day "uplift 0 -2 -2 0 -4" ∷ []
+
 -- F-5, ad hoc schedules; its refusals are in HandDays
 abbrev adHocParts : List (List Case)
-adHocParts = adHoc1Cases ∷ adHoc2Cases ∷ adHoc3Cases ∷ []
+adHocParts = adHoc1Cases ∷ adHoc2Cases ∷ adHoc3Cases ∷ adHoc2Uplift ∷ []
 
 pub ad-hoc-days : every (all adHocParts) ≡ true
 unfolding opened adHoc1Opened adHoc2Opened adHoc3Opened
@@ -100,3 +105,6 @@ ad-hoc-2 = part-holds adHocParts ad-hoc-days 1
 
 pub ad-hoc-3 : every adHoc3Cases ≡ true
 ad-hoc-3 = part-holds adHocParts ad-hoc-days 2
+
+pub ad-hoc-2-uplift : every adHoc2Uplift ≡ true
+ad-hoc-2-uplift = part-holds adHocParts ad-hoc-days 3

@@ -37,6 +37,11 @@ every-back : (cs ds : List Case) → every (cs ++ ds) ≡ true → every ds ≡ 
 every-back [] ds e = e
 every-back (c ∷ cs) ds e = every-back cs ds (and-back (same (c .found) (c .expected)) (every (cs ++ ds)) e)
 
+-- lists of cases that pass, one after another
+pub every-both : (cs ds : List Case) → every cs ≡ true → every ds ≡ true → every (cs ++ ds) ≡ true
+every-both [] ds e f = f
+every-both (c ∷ cs) ds e f = and-both (same (c .found) (c .expected)) (every (cs ++ ds)) (and-front (same (c .found) (c .expected)) (every cs) e) (every-both cs ds (and-back (same (c .found) (c .expected)) (every cs) e) f)
+
 -- the cases of several lists, one after another
 abbrev pub all : List (List Case) → List Case
 all [] = []

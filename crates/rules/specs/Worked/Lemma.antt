@@ -9,26 +9,30 @@ use Rattle.rules.specs.Book.{bookAfter}
 use Rattle.rules.specs.Report.{reportText}
 use Rattle.rules.specs.Worked.Cases.{Case, every}
 use Rattle.rules.specs.Worked.Opened.{opened}
-use Rattle.rules.specs.Worked.Laws.{all, part-holds, case-holds, number-holds}
+use Rattle.rules.specs.Worked.Laws.{all, every-both, part-holds, case-holds, number-holds}
 use Rattle.rules.specs.Worked.HandDays.{ad-hoc-refused}
-use Rattle.rules.specs.Worked.ByHand.{handCases}
+use Rattle.rules.specs.Worked.ByHand.{handCases, by-hand}
 use Rattle.rules.specs.Worked.Base1.{base1Day, base1Book, base1Text, base1CasesOn, base1Cases, base1Opened}
 use Rattle.rules.specs.Worked.Base2.{base2Day, base2Book, base2Text, base2CasesOn, base2Cases, base2Opened}
 use Rattle.rules.specs.Worked.Base3.{base3Day, base3Book, base3Text, base3CasesOn, base3Cases, base3Opened}
 use Rattle.rules.specs.Worked.Refused.{refusedCases, limitCases, refusedOpened}
 
+abbrev dayParts : List (List Case)
+dayParts = refusedCases ∷ base2Cases ∷ base3Cases ∷ base1Cases ∷ limitCases ∷ []
+
 abbrev parts : List (List Case)
-parts = handCases ∷ refusedCases ∷ base2Cases ∷ base3Cases ∷ base1Cases ∷ limitCases ∷ []
+parts = handCases ∷ dayParts
 
 -- it names the lemma of F-5's refusals, which names that of the days by hand and so K1 to K10's: where those are refused this is not computed
+days-worked : every (all dayParts) ≡ true
+unfolding opened base1Opened base2Opened base3Opened refusedOpened
+days-worked = let k = ad-hoc-refused in refl
+
+-- with the figures by hand, which are computed before K1 to K10
 pub worked : every (all parts) ≡ true
-unfolding opened handCases base1Opened base2Opened base3Opened refusedOpened
-worked = let k = ad-hoc-refused in refl
+worked = every-both handCases (all dayParts) by-hand days-worked
 
 -- every case of each part: with `case-holds` the equation of any of them
-pub by-hand : every handCases ≡ true
-by-hand = part-holds parts worked 0
-
 pub refused : every refusedCases ≡ true
 refused = part-holds parts worked 1
 

@@ -1,6 +1,6 @@
 -- The definitions of document 01, opened: a lemma by computation says `unfolding opened`, so that this list stands in one place.
 use Prim.Native.Nat.{ℕ}
-use Rattle.rules.specs.Fold.{refuse, _orElse_, first, before, sumTo, sumZ, mostTo, someTo, joined, listTo, sumOf, padded}
+use Rattle.rules.specs.Fold.{refuse, _orElse_, first, before, sumTo, sumZ, mostTo, someTo, allTo, joined, listTo, sumOf, padded}
 use Rattle.rules.specs.Layout.{adHoc, marketAt, linesAt, recordCount}
 use Rattle.rules.specs.Refusals.{headerFaultOf, headerFault, recordFault, sameRecord, twinFault, recordsFault, marketPriceFault, markFault, marketFault, breakFault, outOfOrder, orderFault, priceFault, unusedFault, bidFault}
 use Rattle.rules.specs.Refusals.{totalFault, actualFault, headFault, lineFaultWith, lineFault, lineFaultAt, sameKey, pairFault, keyFault, dayFault, settleFault, viewFault, linePartFault, cutFault}
@@ -14,14 +14,15 @@ use Rattle.rules.specs.Payments.{givenBack, initialOr, revised, modified
 use Rattle.rules.specs.Payments.{poolChange, poolBase, poolDiffers, poolOf, stepFinal}
 use Rattle.rules.specs.Days.{stepOf}
 use Rattle.rules.specs.Totals.{linePayment, total, leastSum, adjustedAfter, carried, adjusted, totals, adjustedTotal}
+use Rattle.rules.specs.Uplift.{allFrom, sameGroup, groupTotal, groupAdjusted, product, roundedSize, leavesRemainder, unitsLeft, remaindersBefore, unitFor, shareSize, shareOf, uplift, upliftAnswer}
 use Rattle.rules.specs.Book.{le, bookHeader, totalPair, lineEntry, bookOf, bookAfter}
-use Rattle.rules.specs.Report.{digits, decimal, signedDecimal, sideText, numberAfter, fiveNumbers, lineText, settledText, refusedLine, reportText}
+use Rattle.rules.specs.Report.{digits, decimal, signedDecimal, sideText, numberAfter, fiveNumbers, lineText, settledText, refusedLine, reportText, upliftLine, upliftReport}
 use Rattle.rules.specs.Cutting.{prices, flags, bits, flagWord, missing, priceRow, cutOf, cutRefused, cutAnswer}
 use Rattle.rules.specs.Viewing.{viewOf, viewRefused, viewAnswer}
 use Rattle.rules.specs.Worked.Cases.{viewFields, cutFields}
 
 unfoldable pub opened : ℕ
-unfolding refuse _orElse_ first before sumTo sumZ mostTo someTo joined listTo sumOf padded adHoc marketAt linesAt recordCount isFor
+unfolding refuse _orElse_ first before sumTo sumZ mostTo someTo allTo joined listTo sumOf padded adHoc marketAt linesAt recordCount isFor
     isAbove highest rowAt tableWith tableInForce headerFaultOf headerFault marketPriceFault markFault marketFault recordFault sameRecord twinFault
     recordsFault breakFault outOfOrder orderFault priceFault unusedFault bidFault totalFault actualFault headFault lineFaultWith lineFault
     lineFaultAt sameKey pairFault keyFault dayFault settleFault viewFault linePartFault cutFault bidMost greatestBreak insert rising bidBreaks
@@ -31,7 +32,9 @@ unfolding refuse _orElse_ first before sumTo sumZ mostTo someTo joined listTo su
     excessOf noExcess aginoOn msiqOn constrainedOn onStep beyondBy milder rate revisedRate isPaid initial givenBack initialOr
     revised modified pooledPayment isPooled finalPayment stepOf
     poolTotal poolChange poolBase poolDiffers poolOf
-    stepFinal linePayment total leastSum adjustedAfter carried adjusted totals adjustedTotal le bookHeader totalPair
+    stepFinal linePayment total leastSum adjustedAfter carried adjusted totals adjustedTotal
+    allFrom sameGroup groupTotal groupAdjusted product roundedSize leavesRemainder unitsLeft remaindersBefore unitFor shareSize shareOf
+    uplift upliftAnswer le bookHeader totalPair
     lineEntry bookOf bookAfter digits decimal signedDecimal sideText numberAfter fiveNumbers
-    lineText settledText refusedLine reportText prices flags bits flagWord missing priceRow cutOf cutRefused cutAnswer viewOf viewRefused viewAnswer viewFields cutFields
+    lineText settledText refusedLine reportText upliftLine upliftReport prices flags bits flagWord missing priceRow cutOf cutRefused cutAnswer viewOf viewRefused viewAnswer viewFields cutFields
 opened = 0

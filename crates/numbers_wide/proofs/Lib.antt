@@ -1,0 +1,2 @@
+-- Laws that the proofs of `numbers_wide` cite.
+pub mod Laws
