@@ -176,54 +176,40 @@ fn formats() -> [Arg; 2] {
     ]
 }
 
+/// A command on days that has a row for each of them, or by the flag `whole` all there is of each.
+fn of_days(command: Command, whole: &'static str, help: &'static str) -> Command {
+    command
+        .arg(files("DAY", "Day files"))
+        .args(formats())
+        .arg(flag("units", UNITS))
+        .arg(flag(
+            "days",
+            "One row for each day, also where there is only one",
+        ))
+        .arg(flag(whole, help))
+        .group(ArgGroup::new("rows").args(["days", whole]))
+}
+
 fn settle() -> Command {
-    sub(
-        "settle",
-        "Settles days: the report of one, or a table of many",
-        SETTLE,
-    )
-    .arg(files("DAY", "Day files"))
-    .args(formats())
-    .arg(flag("units", UNITS))
-    .arg(flag(
-        "days",
-        "One row for each day, also where there is only one",
-    ))
-    .arg(flag(
-        "lines",
-        "Each day's whole book, also where there are several",
-    ))
-    .group(ArgGroup::new("rows").args(["days", "lines"]))
-    .arg(flag(
-        "books",
-        "Write each day's book beside it, with the ending .book",
-    ))
-    .arg(path(
-        "books-in",
-        "FOLDER",
-        "Write the books into this folder",
-    ))
-    .group(ArgGroup::new("written").args(["books", "books-in"]))
+    let lines = "Each day's whole book, also where there are several";
+    let about = "Settles days: the report of one, or a table of many";
+    of_days(sub("settle", about, SETTLE), "lines", lines)
+        .arg(flag(
+            "books",
+            "Write each day's book beside it, with the ending .book",
+        ))
+        .arg(path(
+            "books-in",
+            "FOLDER",
+            "Write the books into this folder",
+        ))
+        .group(ArgGroup::new("written").args(["books", "books-in"]))
 }
 
 fn uplift() -> Command {
-    sub(
-        "uplift",
-        "Says each schedule's share of the adjusted totals",
-        UPLIFT,
-    )
-    .arg(files("DAY", "Day files"))
-    .args(formats())
-    .arg(flag("units", UNITS))
-    .arg(flag(
-        "days",
-        "One row for each day, also where there is only one",
-    ))
-    .arg(flag(
-        "schedules",
-        "A row for each schedule of each day, also where there are several",
-    ))
-    .group(ArgGroup::new("rows").args(["days", "schedules"]))
+    let schedules = "A row for each schedule of each day, also where there are several";
+    let about = "Says each schedule's share of the adjusted totals";
+    of_days(sub("uplift", about, UPLIFT), "schedules", schedules)
 }
 
 fn steps() -> Command {

@@ -202,6 +202,40 @@ impl Uplift {
         let group = self.group(s)?;
         Some(Exact::new(self.totals[s], group))
     }
+
+    /// Of schedule s, from 0.
+    fn schedule_row(&self, s: usize, unit: Unit) -> Vec<String> {
+        let (group, exact) = match (self.group(s), self.exact(s)) {
+            (Some(group), Some(exact)) => (
+                number_words(&group.numbers()),
+                match unit {
+                    Unit::Dollars => exact.dollars().to_string(),
+                    Unit::Units => exact.units().to_string(),
+                },
+            ),
+            _ => ("none".to_string(), String::new()),
+        };
+        vec![
+            (s + 1).to_string(),
+            unit.text(self.totals[s]),
+            unit.text(self.adjusted[s]),
+            group,
+            exact,
+            unit.text(self.shares[s]),
+        ]
+    }
+
+    fn sum_row(&self, unit: Unit) -> Vec<String> {
+        let sum = |row: &BySchedule<i64>| unit.text(row.iter().sum());
+        vec![
+            "sum".to_string(),
+            sum(&self.totals),
+            sum(&self.adjusted),
+            String::new(),
+            String::new(),
+            sum(&self.shares),
+        ]
+    }
 }
 
 impl Answer for Uplift {
@@ -229,35 +263,8 @@ impl Answer for Uplift {
             "uplift",
         ];
         let mut rows = vec![heading.map(String::from).to_vec()];
-        for s in 0..SCHEDULES {
-            let (group, exact) = match (self.group(s), self.exact(s)) {
-                (Some(group), Some(exact)) => (
-                    number_words(&group.numbers()),
-                    match unit {
-                        Unit::Dollars => exact.dollars().to_string(),
-                        Unit::Units => exact.units().to_string(),
-                    },
-                ),
-                _ => ("none".to_string(), String::new()),
-            };
-            rows.push(vec![
-                (s + 1).to_string(),
-                unit.text(self.totals[s]),
-                unit.text(self.adjusted[s]),
-                group,
-                exact,
-                unit.text(self.shares[s]),
-            ]);
-        }
-        let sum = |row: &BySchedule<i64>| unit.text(row.iter().sum());
-        rows.push(vec![
-            "sum".to_string(),
-            sum(&self.totals),
-            sum(&self.adjusted),
-            String::new(),
-            String::new(),
-            sum(&self.shares),
-        ]);
+        rows.extend((0..SCHEDULES).map(|s| self.schedule_row(s, unit)));
+        rows.push(self.sum_row(unit));
         text.push_str(&aligned(&rows));
         text
     }

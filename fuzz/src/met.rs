@@ -42,6 +42,9 @@ pub const MET: [&str; 26] = [
     "uplifts with a product above 64 bits",
 ];
 
+/// How many of `MET`, the last ones, are of uplift.
+const UPLIFTS: usize = 7;
+
 /// What wasn't refused: the day settled; a view with day, number of its line, line with the rows in force and answer;
 /// the line cut; the day of which a line was lent. And the totals and adjusted totals of the day settled, and whether the
 /// cutter refused the line viewed for its own rows.
@@ -57,6 +60,15 @@ pub struct Accepted<'a> {
 impl Accepted<'_> {
     /// Which of `MET` hold.
     pub fn met(&self) -> [bool; MET.len()] {
+        let mut met = [false; MET.len()];
+        let (others, uplifts) = met.split_at_mut(MET.len() - UPLIFTS);
+        others.copy_from_slice(&self.met_in_payments());
+        uplifts.copy_from_slice(&self.met_in_uplift());
+        met
+    }
+
+    /// The first of `MET`.
+    fn met_in_payments(&self) -> [bool; MET.len() - UPLIFTS] {
         let has_records = |day: Option<&[u8]>| day.is_some_and(|day| record_count(day) > 0);
         let has_pulled = |line: Line| pulled(line).next().is_some();
         let viewed = |is_met: fn(Line, &View) -> bool| {
@@ -68,11 +80,6 @@ impl Accepted<'_> {
             .map(|(day, k, line, view)| rows(day, k, line, view));
         let some_row = |is_met: fn(&AdHocRow) -> bool| {
             rows.as_ref().is_some_and(|rows| rows.iter().any(is_met))
-        };
-        let groups = self.totals.map_or(Vec::new(), |(t, a)| groups(&t, &a));
-        let some_group = |is_met: fn(&Group) -> bool| groups.iter().any(is_met);
-        let some_two = |is_met: fn(&Group, &Group) -> bool| {
-            groups.windows(2).any(|two| is_met(&two[0], &two[1]))
         };
         [
             viewed(|_, view| has_share(view)),
@@ -96,6 +103,17 @@ impl Accepted<'_> {
             }),
             some_row(|row| row.other_actual),
             self.refused_own_row,
+        ]
+    }
+
+    /// The last of `MET`: those of uplift.
+    fn met_in_uplift(&self) -> [bool; UPLIFTS] {
+        let groups = self.totals.map_or(Vec::new(), |(t, a)| groups(&t, &a));
+        let some_group = |is_met: fn(&Group) -> bool| groups.iter().any(is_met);
+        let some_two = |is_met: fn(&Group, &Group) -> bool| {
+            groups.windows(2).any(|two| is_met(&two[0], &two[1]))
+        };
+        [
             some_group(|group| group.units() == 1),
             some_group(|group| group.units() > 1),
             some_group(|group| group.units() > 0 && group.remainders.contains(&0)),

@@ -3,20 +3,30 @@
 use super::markup::Markup;
 use super::{decimals, put_money, side_name, Drawn};
 use crate::layout::{BySchedule, SCHEDULES};
+use mewikofu::BookLine;
 
 pub fn put(page: &mut Markup, drawn: &Drawn) {
-    let book = &drawn.day.book;
+    page.open("section aria-labelledby=\"payments\"");
+    page.element("h2 id=\"payments\"", "Payments of all lines");
+    page.open("div class=\"scroll all\" tabindex=\"0\" role=\"region\" aria-label=\"Payments of all lines\"");
+    table(page, drawn);
+    page.close();
+    page.open("p class=\"choice\"").open("label");
+    choice(page, "all", false);
+    page.words("show the steps of all lines").close().close();
+    page.close().row_end();
+}
+
+fn table(page: &mut Markup, drawn: &Drawn) {
+    let (book, lines) = (&drawn.day.book, &drawn.day.lines);
     let below = [
         ("Total", book.totals()),
         ("Adjusted total", book.adjusted()),
         ("Uplift", drawn.day.uplift),
     ];
-    let lines = drawn.day.lines.iter().map(|line| line.entry.payments);
-    let rows = lines.chain(below.map(|(_, row)| row));
+    let payments = lines.iter().map(|line| line.entry.payments);
+    let rows = payments.chain(below.map(|(_, row)| row));
     let places = decimals(rows.flat_map(|row| row.into_iter().chain([row.iter().sum()])));
-    page.open("section aria-labelledby=\"payments\"");
-    page.element("h2 id=\"payments\"", "Payments of all lines");
-    page.open("div class=\"scroll all\" tabindex=\"0\" role=\"region\" aria-label=\"Payments of all lines\"");
     page.open("table class=\"lines\"").row_end();
     page.element(
         "caption",
@@ -24,17 +34,8 @@ pub fn put(page: &mut Markup, drawn: &Drawn) {
     );
     headings(page);
     page.open("tbody").row_end();
-    for (k, line) in drawn.day.lines.iter().enumerate() {
-        let entry = &line.entry;
-        page.open("tr").open("th scope=\"row\"").open("label");
-        choice(page, &k.to_string(), k == drawn.chosen);
-        page.words(&k.to_string()).close().close();
-        page.element("td", &entry.participant.to_string());
-        page.element("td", &entry.point.to_string());
-        page.element("td class=\"left\"", side_name(entry.side));
-        page.element("td", &entry.steps.to_string());
-        amounts(page, &entry.payments, places);
-        page.close().row_end();
+    for (k, line) in lines.iter().enumerate() {
+        line_row(page, k, &line.entry, k == drawn.chosen, places);
     }
     page.close().open("tfoot").row_end();
     for (name, row) in below {
@@ -43,10 +44,18 @@ pub fn put(page: &mut Markup, drawn: &Drawn) {
         amounts(page, &row, places);
         page.close().row_end();
     }
-    page.close().close().close();
-    page.open("p class=\"choice\"").open("label");
-    choice(page, "all", false);
-    page.words("show the steps of all lines").close().close();
+    page.close().close();
+}
+
+fn line_row(page: &mut Markup, k: usize, entry: &BookLine, chosen: bool, places: usize) {
+    page.open("tr").open("th scope=\"row\"").open("label");
+    choice(page, &k.to_string(), chosen);
+    page.words(&k.to_string()).close().close();
+    page.element("td", &entry.participant.to_string());
+    page.element("td", &entry.point.to_string());
+    page.element("td class=\"left\"", side_name(entry.side));
+    page.element("td", &entry.steps.to_string());
+    amounts(page, &entry.payments, places);
     page.close().row_end();
 }
 

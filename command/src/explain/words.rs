@@ -12,6 +12,7 @@ use crate::excess;
 use crate::figures::{Figures, Line};
 use crate::layout::SCHEDULES;
 use crate::lists::{joined, number_words, pulled_sentence};
+use crate::uplift::Uplift;
 use crate::values::counted;
 
 const WIDTH: usize = 100;
@@ -287,22 +288,30 @@ fn put_rest(text: &mut Text, explained: &Explained, wanted: &Wanted) {
         }
     }
     if wanted.schedule.is_none() {
-        text.gap();
-        text.put(
-            0,
-            "Totals of all lines, and as adjusted so that no schedule is left short:",
-        );
-        for sentence in totals::sentences(day) {
-            text.put(2, &sentence);
-        }
-        text.gap();
-        text.put(
-            0,
-            "Uplift of each schedule, its share of the adjusted totals of its group, a longest run of neighbouring schedules whose totals are all above \
-             $0 or all below $0:",
-        );
-        for (indent, sentence) in uplift::sentences(&explained.uplift) {
-            text.put(2 + indent, &sentence);
-        }
+        put_totals(text, day);
+        put_uplift(text, &explained.uplift);
+    }
+}
+
+fn put_totals(text: &mut Text, day: &Figures) {
+    text.gap();
+    text.put(
+        0,
+        "Totals of all lines, and as adjusted so that no schedule is left short:",
+    );
+    for sentence in totals::sentences(day) {
+        text.put(2, &sentence);
+    }
+}
+
+fn put_uplift(text: &mut Text, uplift: &Uplift) {
+    text.gap();
+    text.put(
+        0,
+        "Uplift of each schedule, its share of the adjusted totals of its group, a longest run of neighbouring schedules whose totals are all above \
+         $0 or all below $0:",
+    );
+    for (indent, sentence) in uplift::sentences(uplift) {
+        text.put(2 + indent, &sentence);
     }
 }

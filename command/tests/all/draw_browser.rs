@@ -9,6 +9,9 @@ use std::io::Write;
 use std::path::{Path, PathBuf};
 use std::process::Command;
 
+/// Width and height of the window: the page of the winter day fits.
+const SIZE: (u32, u32) = (1400, 1340);
+
 /// The browser, and a folder for it that goes when this does.
 struct Browser {
     program: PathBuf,
@@ -47,7 +50,8 @@ impl Browser {
                 "--disable-gpu",
                 "--hide-scrollbars",
             ])
-            .args(["--enable-logging=stderr", "--window-size=1400,1310"])
+            .arg("--enable-logging=stderr")
+            .arg(format!("--window-size={},{}", SIZE.0, SIZE.1))
             .arg(format!(
                 "--user-data-dir={}",
                 self.folder.join("profile").display()
@@ -199,5 +203,5 @@ fn shows_it() {
 #[test]
 fn kept_picture() {
     let picture = fs::read(Path::new(env!("CARGO_MANIFEST_DIR")).join("../docs/day.png")).unwrap();
-    assert_eq!(measures(&picture), (1400, 1310));
+    assert_eq!(measures(&picture), SIZE);
 }

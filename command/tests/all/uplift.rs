@@ -217,22 +217,30 @@ fn check_first_row(day: &[u8]) {
     }
 }
 
-/// One row for each day, or one for each schedule; a refused day keeps its place.
+/// Three files, of which the second is refused.
+fn three_files() -> [String; 3] {
+    ["pulled", "refused", "k10"]
+        .map(|name| format!("{}/../examples/{name}.day", env!("CARGO_MANIFEST_DIR")))
+}
+
+/// What is printed of the three files; the refusal of the second is said.
+fn of_three(arguments: &[&str]) -> String {
+    let files = three_files();
+    let names = files.each_ref().map(String::as_str);
+    let run = run_with(&[&["uplift"], arguments, &names].concat(), &[]);
+    assert_eq!(run.status, 1);
+    let message = format!("mewikofu: {}: refused 9: ", files[1]);
+    assert!(run.message.starts_with(&message) || arguments == ["--json"]);
+    String::from_utf8(run.out).unwrap()
+}
+
+/// 800, 2,000 and 250 million are shared 2,000 million: 80 x 200 / 305 = 52.4590163.., 131.1475409.. and 16.3934426..
+const PULLED: [i64; 5] = [524_590_164, 1_311_475_410, 163_934_426, 0, 0];
+
+/// One row for each day; a refused day keeps its place.
 #[test]
-fn several_days() {
-    let path = |name: &str| format!("{}/../examples/{name}.day", env!("CARGO_MANIFEST_DIR"));
-    let files = ["pulled", "refused", "k10"].map(path);
-    let files = [&files[0], &files[1], &files[2]].map(String::as_str);
-    let rows = |arguments: &[&str]| {
-        let run = run_with(&[&["uplift"], arguments, &files].concat(), &[]);
-        assert_eq!(run.status, 1);
-        let message = format!("mewikofu: {}: refused 9: ", files[1]);
-        assert!(run.message.starts_with(&message) || arguments == ["--json"]);
-        String::from_utf8(run.out).unwrap()
-    };
-    // 800, 2,000 and 250 million are shared 2,000 million: 80 x 200 / 305 = 52.4590163.., 131.1475409.. and 16.3934426..
-    let pulled = [524_590_164, 1_311_475_410, 163_934_426, 0, 0];
-    let csv = rows(&["--csv", "--units"]);
+fn table_of_days() {
+    let csv = of_three(&["--csv", "--units"]);
     let mut reader = csv::Reader::from_reader(csv.as_bytes());
     let columns: Vec<String> = (1..6).map(|s| format!("uplift_{s}_units")).collect();
     let headers: Vec<String> = reader.headers().unwrap().iter().map(String::from).collect();
@@ -244,10 +252,15 @@ fn several_days() {
     let amounts = |row: &csv::StringRecord| -> Vec<i64> {
         (2..7).map(|cell| row[cell].parse().unwrap()).collect()
     };
-    assert_eq!((&table[0][1], amounts(&table[0])), ("3", pulled.to_vec()));
+    assert_eq!((&table[0][1], amounts(&table[0])), ("3", PULLED.to_vec()));
     assert_eq!((&table[1][2], &table[1][7]), ("", "9"));
     assert_eq!(amounts(&table[2]), [0, 10_000_000, 0, 0, 0]);
-    let text = rows(&[]);
+}
+
+/// The same for a reader, with the sums of the days that aren't refused.
+#[test]
+fn text_of_days() {
+    let text = of_three(&[]);
     let words: Vec<Vec<&str>> = text
         .lines()
         .map(|row| row.split_whitespace().collect())
@@ -265,45 +278,49 @@ fn several_days() {
     assert_eq!(words[2][1..], ["refused", "9"]);
     assert_eq!(words[4][..5], ["total", "of", "2", "days", "4"]);
     assert_eq!(words[4][5..7], ["$52.4590164", "$132.1475410"]);
-    let whole = rows(&["--schedules"]);
-    for row in [
-        format!(
-            "== {} ==\nuplift 524590164 1311475410 163934426 0 0\n\nschedule ",
-            files[0]
-        ),
-        format!(
-            "== {} ==\nrefused 9\n== {} ==\nuplift 0 10000000 0 0 0\n\n",
-            files[1], files[2]
-        ),
-    ] {
-        assert!(whole.contains(&row), "{whole}");
-    }
-    assert_eq!(rows(&["--schedules", "--csv"]).lines().count(), 1 + 2 * 5);
-    let objects: Vec<serde_json::Value> = rows(&["--json"])
-        .lines()
-        .map(|row| serde_json::from_str(row).unwrap())
-        .collect();
-    assert_eq!(objects[0]["uplift"], serde_json::json!(pulled));
-    assert_eq!(objects[1]["refused"], 9);
     // One day as one row.
-    let one = run_with(&["uplift", "--days", files[2]], &[]).text();
+    let one = run_with(&["uplift", "--days", &three_files()[2]], &[]).text();
     assert_eq!(one.lines().count(), 3, "{one}");
 }
 
-/// The explanation of a day ends with its uplift: the arithmetic of each group, by hand.
+/// A row for each schedule of each day.
+#[test]
+fn schedules_of_days() {
+    let whole = of_three(&["--schedules"]);
+    let [first, second, third] = three_files();
+    for row in [
+        format!("== {first} ==\nuplift 524590164 1311475410 163934426 0 0\n\nschedule "),
+        format!("== {second} ==\nrefused 9\n== {third} ==\nuplift 0 10000000 0 0 0\n\n"),
+    ] {
+        assert!(whole.contains(&row), "{whole}");
+    }
+    let table = of_three(&["--schedules", "--csv"]);
+    assert_eq!(table.lines().count(), 1 + 2 * 5);
+}
+
+#[test]
+fn objects_of_days() {
+    let objects: Vec<serde_json::Value> = of_three(&["--json"])
+        .lines()
+        .map(|row| serde_json::from_str(row).unwrap())
+        .collect();
+    assert_eq!(objects[0]["uplift"], serde_json::json!(PULLED));
+    assert_eq!(objects[1]["refused"], 9);
+}
+
+/// The explanation of a worked day has the words, however its lines are broken.
+fn explanation_has(name: &str, words: &[&str]) {
+    let text = run(&["explain"], &worked(name, "day")).text();
+    let text = text.split_whitespace().collect::<Vec<_>>().join(" ");
+    for words in words {
+        assert!(text.contains(words), "{words}\n{text}");
+    }
+}
+
+/// The arithmetic of each group, by hand.
 #[test]
 fn explained() {
-    let text = |name: &str| {
-        let text = run(&["explain"], &worked(name, "day")).text();
-        text.split_whitespace().collect::<Vec<_>>().join(" ")
-    };
-    let has = |name: &str, words: &[&str]| {
-        let text = text(name);
-        for words in words {
-            assert!(text.contains(words), "{words}\n{text}");
-        }
-    };
-    has(
+    explanation_has(
         "F-5-1",
         &[
             "Schedules 1 to 4, all above $0: the totals add up to $0.0000074 and the adjusted totals to $0.000007.",
@@ -313,7 +330,7 @@ fn explained() {
             "Schedule 5: a group of its own, so the uplift is the adjusted total, $0.00.",
         ],
     );
-    has(
+    explanation_has(
         "F-5-2",
         &[
             "Schedules 2 and 3, all below $0: the totals add up to -$0.0000024 and the adjusted totals to -$0.0000004.",
@@ -322,13 +339,18 @@ fn explained() {
         ],
     );
     // 50 and 1 have 51 in sum, all of which is there: nothing is rounded.
-    has(
+    explanation_has(
         "F-5-3",
         &[
             "Schedule 1: the total is $0, so there is no uplift.",
             "Schedule 4: $0.0000001 x $0.0000051 / $0.0000051 = $0.0000001.",
         ],
     );
+}
+
+/// The explanation of a day ends with its uplift; that of one schedule has none.
+#[test]
+fn end_of_explanation() {
     let pulled = run(&["explain"], &stored("examples/pulled.day")).text();
     assert!(pulled.ends_with("so there is no uplift.\n"), "{pulled}");
     let one = run(

@@ -26,7 +26,7 @@ unfoldable pub linkAt : List ℕ → ℕ → ℕ
 linkAt g zero = 0
 linkAt g (suc s) = linkOf (at g s) (at g (suc s))
 
--- the sum of x over the schedules of the group that are before s; over s and these; over the group, with m schedules after s
+-- the sum of x over the schedules of the group of s that are before s; over the whole group, where m schedules follow s
 unfoldable pub before : List ℕ → List ℕ → ℕ → ℕ
 before l x zero = 0
 before l x (suc s) = cond (eqb (at l (suc s)) 0) 0 (before l x s + at x s)

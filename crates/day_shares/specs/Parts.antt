@@ -1,4 +1,4 @@
--- What the code works out on the way to the shares, place by place, and that these are the paper's.
+-- What the code works out on the way to the shares, place by place, and that these are document 02's.
 use Prim.Native.Nat.{ℕ, zero, suc, _+_, _*_, _-_, _/_, _%_, _≤_, _<_, _^_}
 use native.Mathlib.Nat.{zero-mul, zero-div, zero-mod}
 use native.Mathlib.Omega.{arith}
@@ -175,7 +175,7 @@ module _ (t : List ℤ) where
         let own = own-group t s e in
         rw (size-row s l own, unit-row s l own, not-none (atZ t s) e)
 
-    -- the code's shares are the paper's
+    -- the code's shares are document 02's
     pub share-is : (s : ℕ) → s < 5 → shareAt t sizesOf unitsOf s ≡ shareOf t s
     share-is s l = share-by s l (sign-of (atZ t s))
 

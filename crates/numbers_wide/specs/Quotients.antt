@@ -9,7 +9,7 @@ pub record Quotient (n c q r : ℕ) : Type 0 where
   pub whole : n ≡ q * c + r
   pub below : r < c
 
--- for any product a * b too: it is a * b / c times c and a * b % c more, which is below c
+-- quotient and remainder of any n, so of any product a * b, by any c above 0
 pub of-division : (n c : ℕ) → 0 < c → Quotient n c (n / c) (n % c)
 of-division n c h = record { whole = sym (div-add-mod' n c); below = mod-lt n h }
 

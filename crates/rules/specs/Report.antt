@@ -1,4 +1,5 @@
--- Document 01, "Figures to check against", K10: the settling program's text as bytes. Every line of it ends with a line feed.
+-- Document 01, "Figures to check against", K10: the settling program's text as bytes, and the uplift program's (document
+-- 02, F-1). Every line of them ends with a line feed.
 use Prim.Native.Nat.{ℕ, zero, suc, _+_, _/_, _%_}
 use mathlib.Core.List.{List, [], _∷_, _++_}
 use mathlib.Core.Bool.{cond}

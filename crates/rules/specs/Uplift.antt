@@ -57,7 +57,8 @@ remaindersBefore t s = sumTo s (λ q. bit (sameGroup t s q && leavesRemainder t 
 unfoldable pub unitFor : List ℤ → ℕ → ℕ
 unitFor t s = bit (leavesRemainder t s && ltb (remaindersBefore t s) (unitsLeft t s))
 
--- the size of a share; its sign is the total's, which is that of the exact fraction (`Fair`, crates/uplift_laws/specs)
+-- the size of a share; its sign is the total's, which is that of the exact fraction where this isn't 0 (`group-adjusted`,
+-- crates/uplift_laws/specs/Signs.antt)
 unfoldable pub shareSize : List ℤ → ℕ → ℕ
 shareSize t s = roundedSize t s + unitFor t s
 

@@ -46,7 +46,7 @@ module _ (d : List ℕ) (lent : ℕ) where
         let z : dayFault d ≡ 0 = sym number-is ∙ g in
         rw (le-ltb lent lineMost h, e, eq-eqb (dayFault d) 0 z)
 
--- a refused day's line is its report's
+-- a refused day's line is its report's, so `text_long::put_long` puts this program's too
 pub refused-same : (d : List ℕ) → (dayFault d ≡ 0 → ⊥) → upliftReport d ≡ reportText d
 unfolding upliftReport reportText
 refused-same d g = rw (ne-eqb (dayFault d) 0 g)

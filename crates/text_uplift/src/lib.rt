@@ -13,7 +13,7 @@ ghost use Rattle.rules.specs.Report.{upliftReport};
 ghost use Rattle.text.specs.Put.{Written};
 ghost use Rattle.text_uplift.specs.Lines.{lineMost, sharesLine};
 
-// The bytes that the longest line takes: the word, five numbers, the line's end.
+// No line takes more bytes: the word, five numbers of at most 21 bytes, each after a space, the line's end.
 pub const LINE_MOST: usize = 117;
 
 // The word and the five shares.

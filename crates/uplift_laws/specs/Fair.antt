@@ -6,14 +6,14 @@ use native.Mathlib.Omega.{arith}
 use mathlib.Core.Path.{_≡_, refl, sym, _∙_}
 use mathlib.Core.List.{List}
 use mathlib.Core.Bool.{Bool, true, false, cond, _&&_, false≢true}
-use lib.Dec.{eqb·suc-zero}
-use borrow.Author.Tests.{lt-ltb, le-ltb}
+use lib.Dec.{ltb, eqb·suc-zero}
+use borrow.Author.Tests.{ltb-true, lt-ltb, le-ltb}
 use lib.IntN.{ℤ, pos, negsuc, negℤ, natAbs, _+ℤ_, _-ℤ_, _*ℤ_}
 use Rattle.rules.specs.Fold.{sumTo, sumZ, atZ, eqbZ}
 use Rattle.rules.specs.Payments.{bit, Day}
 use Rattle.rules.specs.Totals.{totals, adjusted, adjustedTotal}
 use Rattle.rules.specs.Uplift.{above, below, sameGroup, groupTotal, groupAdjusted, product, roundedSize, leavesRemainder, unitsLeft, remaindersBefore, unitFor, shareSize, shareOf, uplift}
-use Rattle.laws.specs.Folds.{sum-same, sumZ-none, sumZ-suc}
+use Rattle.laws.specs.Folds.{sum-suc, sum-same, sumZ-none, sumZ-suc}
 use Rattle.laws.specs.Ints.{pl, mi, apart, eqZ, add-read, sub-read, pl-neg, mi-neg, le-ltZ}
 use Rattle.day_totals.specs.Sums.{sumZ-same, sumZ-zeros, sumZ-add}
 use Rattle.day_totals.specs.Money.{first-total, linePayments, adjusted-payments}
@@ -361,3 +361,48 @@ group-of t s =
       first = λ q b h k e. not-joined t s (suc q) q b (hasSign b (atZ t q)) (omega arith) h k e refl;
       members = same-group t s;
     }
+
+-- "The units left over go one each to the group's earliest schedules whose division left a remainder": who gets one left a remainder, and where a
+-- schedule gets one, so does each earlier one of its group that left a remainder
+sum-longer : (m n : ℕ) (f : ℕ → ℕ) → m ≤ n → sumTo m f ≤ sumTo n f
+sum-longer m zero f l =
+    let e : m ≡ 0 = omega arith in
+    rw e (omega arith)
+sum-longer m (suc n) f l =
+    elim (decLt n m) [
+      | yes g ↦
+          let e : m ≡ suc n = omega arith in
+          rw e (omega arith)
+      | no g ↦
+          let r = sum-longer m n f (omega arith) in
+          rw (sum-suc n f) (omega arith)
+    ]
+
+unit-given : (a b : Bool) → bit (a && b) ≡ 1 → (a ≡ true) × (b ≡ true)
+unit-given true true e = (refl, refl)
+unit-given true false e = absurd (omega arith)
+unit-given false b e = absurd (omega arith)
+
+pub unit-remainder : (t : List ℤ) (s : ℕ) → unitFor t s ≡ 1 → leavesRemainder t s ≡ true
+unfolding unitFor
+unit-remainder t s u = unit-given (leavesRemainder t s) (ltb (remaindersBefore t s) (unitsLeft t s)) u .0
+
+module _ (t : List ℤ) (s q : ℕ) (h : sameGroup t s q ≡ true) where
+  left-same : unitsLeft t q ≡ unitsLeft t s
+  unfolding unitsLeft
+  left-same =
+      let e = sum-same 5 (λ r. cond (sameGroup t q r) (roundedSize t r) 0) (λ r. cond (sameGroup t s r) (roundedSize t r) 0) (λ r l. rw (same-group t s q h r)) in
+      rw (adjusted-same t s q h, e)
+
+  before-grows : s < q → remaindersBefore t s ≤ remaindersBefore t q
+  unfolding remaindersBefore
+  before-grows l =
+      let e = sum-same q (λ r. bit (sameGroup t q r && leavesRemainder t r)) (λ r. bit (sameGroup t s r && leavesRemainder t r)) (λ r g. rw (same-group t s q h r)) in
+      rw e (sum-longer s q (λ r. bit (sameGroup t s r && leavesRemainder t r)) (omega arith))
+
+  pub earliest : s < q → leavesRemainder t s ≡ true → unitFor t q ≡ 1 → unitFor t s ≡ 1
+  unfolding unitFor
+  earliest l r u =
+      let b = unit-given (leavesRemainder t q) (ltb (remaindersBefore t q) (unitsLeft t q)) u in
+      let g = ltb-true (remaindersBefore t q) (unitsLeft t q) (b .1) in
+      rw (r, lt-ltb (remaindersBefore t s) (unitsLeft t s) (omega (arith, before-grows l, left-same)))

@@ -1,4 +1,4 @@
--- The definitions of document 01, opened: a lemma by computation says `unfolding opened`, so that this list stands in one place.
+-- The definitions of documents 01 and 02, opened: a lemma by computation says `unfolding opened`, so that this list stands in one place.
 use Prim.Native.Nat.{ℕ}
 use Rattle.rules.specs.Fold.{refuse, _orElse_, first, before, sumTo, sumZ, mostTo, someTo, allTo, joined, listTo, sumOf, padded}
 use Rattle.rules.specs.Layout.{adHoc, marketAt, linesAt, recordCount}
