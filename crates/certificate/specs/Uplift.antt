@@ -2,7 +2,7 @@
 -- book as settling leaves it, and `x` the five shares that the uplift call answers. Totals, adjusted totals and payments are the book's.
 use Prim.Native.Nat.{ℕ, _≤_, _<_, _^_}
 use native.Mathlib.Omega.{arith}
-use mathlib.Core.Path.{_≡_, refl, sym, _∙_, ap}
+use mathlib.Core.Path.{_≡_, sym, _∙_}
 use mathlib.Core.List.{List, _++_}
 use mathlib.Core.Bool.{true, false, cond}
 use lib.ListN.{length, drop}
@@ -23,7 +23,7 @@ use Rattle.day_totals.specs.Sizes.{size, totalMost, mag-size}
 use Rattle.day_totals.specs.Sums.{sumZ-same}
 use Rattle.step_inputs.specs.Paid.{DaySized, day-bounded, settled-sized}
 use Rattle.book_layout.specs.Framing.{bookTotal, book-total, after-settling}
-use Rattle.uplift_laws.specs.Fair.{Fair, uplift-fair, uplift-payments}
+use Rattle.uplift_laws.specs.Fair.{uplift-fair, uplift-payments}
 use Rattle.certificate.specs.Certificate.{adjustedIn, paymentsIn}
 use Rattle.certificate.specs.Answers.{settle-taken}
 use Rattle.certificate.specs.Proof.{adjusted-is, payments-sum}

@@ -6,7 +6,7 @@ use mathlib.Core.Path.{_≡_, refl, sym, _∙_, ap}
 use mathlib.Core.List.{List}
 use mathlib.Core.Bool.{Bool, true, false, cond, _&&_, _||_, true≢false}
 use lib.Dec.{eqb}
-use lib.IntN.{ℤ, pos, negsuc}
+use lib.IntN.{ℤ}
 use Rattle.rules.specs.Fold.{sumTo, allTo, five, at, atZ}
 use Rattle.rules.specs.Payments.{bit}
 use Rattle.rules.specs.Uplift.{above, below, allFrom, sameGroup}

@@ -12,13 +12,12 @@ use Rattle.rules.specs.Fold.{sumTo, five, at, atZ, eqbZ}
 use Rattle.rules.specs.Payments.{bit}
 use Rattle.rules.specs.Totals.{adjusted}
 use Rattle.rules.specs.Uplift.{above, below, sameGroup, groupTotal, groupAdjusted, product, roundedSize, leavesRemainder, unitsLeft, remaindersBefore, unitFor, shareSize, shareOf}
-use Rattle.laws.specs.Ints.{pl, mi}
+use Rattle.laws.specs.Ints.{mi}
 use Rattle.laws.specs.Folds.{sum-same, at-five}
 use Rattle.numbers.specs.Shares.{share-most}
-use Rattle.day_totals.specs.Sizes.{Bounded, size, totalMost}
-use Rattle.uplift_laws.specs.Apportion.{among}
-use Rattle.uplift_laws.specs.Signs.{hasSign, Sign, none, some, sign-of, size-is, between-size, adjusted-between, no-group, own-group, same-group, total-same, adjusted-same, group-total, group-adjusted, group-most, group-some}
-use Rattle.day_shares.specs.Groups.{before, whole, Small, signsOf, linksOf, groupTo, before-is, whole-is}
+use Rattle.day_totals.specs.Sizes.{Bounded, size}
+use Rattle.uplift_laws.specs.Signs.{hasSign, Sign, none, some, sign-of, size-is, adjusted-between, own-group, same-group, group-total, group-adjusted, group-most, group-some}
+use Rattle.day_shares.specs.Groups.{before, whole, Small, linksOf, groupTo, before-is, whole-is}
 
 -- of schedule s the size of its total
 abbrev pub sizeAt : List ℤ → ℕ → ℕ

@@ -21,9 +21,9 @@ ghost use Rattle.day_shares.specs.Groups.{Small};
 ghost use Rattle.day_shares.specs.Parts.{sizeAt, Divisible, Divisibles, quotientAt, restAt, unitAt, shareAt, Adjusts};
 
 // A row of quotients, and for each 1 where the division left a remainder.
-pub struct Divided {
-    pub quotients: [u64; 5],
-    pub rests: [u64; 5],
+struct Divided {
+    quotients: [u64; 5],
+    rests: [u64; 5],
 }
 
 // A total without its sign, by its bits.

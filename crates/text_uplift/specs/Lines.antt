@@ -1,6 +1,6 @@
 -- The uplift program's line (document 02, F-1): how long it is at most, and its text by the answer's cases.
 use Prim.Native.Nat.{ℕ, _≤_, _<_}
-use mathlib.Core.Path.{_≡_, refl, sym, _∙_, ap}
+use mathlib.Core.Path.{_≡_, sym, _∙_, ap}
 use mathlib.Core.List.{List, [], _++_}
 use mathlib.Core.Bool.{cond}
 use lib.Dec.{ltb}
@@ -8,8 +8,7 @@ use lib.IntN.{ℤ}
 use borrow.Author.Tests.{lt-ltb, le-ltb, eq-eqb, ne-eqb}
 use Rattle.rules.specs.Fold.{atZ}
 use Rattle.rules.specs.Refusals.{dayFault}
-use Rattle.rules.specs.Days.{settledDay}
-use Rattle.rules.specs.Uplift.{uplift, upliftAnswer}
+use Rattle.rules.specs.Uplift.{upliftAnswer}
 use Rattle.rules.specs.Report.{upliftText, fiveNumbers, refusedLine, upliftLine, reportText, upliftReport}
 use Rattle.rules.specs.declared.Uplift.{Uplift}
 

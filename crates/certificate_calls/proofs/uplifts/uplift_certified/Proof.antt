@@ -6,13 +6,11 @@ use Rattle.certificate_calls.proofs.uplifts.uplift_certified.Statement.
 use Rattle.certificate_calls.proofs.uplifts.uplift_certified.Tie as tie
 
 returns : tie.Need-returns
-returns c = (
-  c .uplift .ensures,
-  (
-    c .before .before .before .settle .ensures .1,
-    λ z. settled-uplift (now (c .before .before .before .before .before .before .before .args .day)) _ _ _ (c .uplift .ensures) (c .before .before .before .settle .ensures .1) z,
-  ),
-)
+returns c =
+    let after-settle = c .before .before .before in
+    let at-start = after-settle .before .before .before .before in
+    let book = after-settle .settle .ensures .1 in
+    (c .uplift .ensures, (book, λ z. settled-uplift (now (at-start .args .day)) _ _ _ (c .uplift .ensures) book z))
 
 pub uplift-certified-spec : {M : Type 1} → statement M
 uplift-certified-spec =
