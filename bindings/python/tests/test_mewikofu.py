@@ -536,14 +536,15 @@ class HeaderTest(unittest.TestCase):
 
 class ReportTest(unittest.TestCase):
     def test_example_days(self):
-        for name in ("k10", "both-sides", "withdrawals", "rules", "accreditation", "pulled", "excess", "ad-hoc", "uplift", "winter"):
+        for name in ("k10", "both-sides", "withdrawals", "rules", "accreditation", "pulled", "excess", "ad-hoc", "uplift", "open-rises", "winter"):
             day = (ROOT / f"examples/{name}.day").read_bytes()
             self.assertEqual(report(mewikofu.settle(day)), (ROOT / f"examples/{name}.report").read_text())
 
     def test_uplift(self):
-        # The day whose uplift was worked out by hand, and others that have it.
+        # The days whose uplift was worked out by hand, and others that have it.
         files = sorted((ROOT / "examples").glob("*.uplift"))
-        self.assertIn("uplift.uplift", [file.name for file in files])
+        for name in ("uplift.uplift", "open-rises.uplift"):
+            self.assertIn(name, [file.name for file in files])
         for file in files:
             shares = mewikofu.uplift(file.with_suffix(".day").read_bytes())
             self.assertEqual(" ".join(map(str, ("uplift", *shares))) + "\n", file.read_text())

@@ -32,7 +32,7 @@ fn refused(arguments: &[&str], day: &[u8]) -> String {
 fn accepted() {
     let text = run(&["make", "--check"], example_text().as_bytes()).text();
     assert_eq!(text, "standard input: accepted\n");
-    let with_excess = ["excess", "ad-hoc"];
+    let with_excess = ["excess", "ad-hoc", "open-rises"];
     for name in EXAMPLES.iter().filter(|name| !with_excess.contains(name)) {
         assert_eq!(
             run(&["check"], &example(name)).text(),
@@ -56,7 +56,7 @@ fn excess_of_accepted_days() {
     // The views of all lines.
     let mut counts = [0; 2];
     let days = (0..40).flat_map(|seed| [excess_day(seed), small_excess_day(seed), valid_day(seed)]);
-    for day in days.chain(["excess", "ad-hoc"].map(example)) {
+    for day in days.chain(["excess", "ad-hoc", "open-rises"].map(example)) {
         let figures = Figures::new(&day).unwrap();
         let mut expected = String::from("standard input: accepted");
         for (k, line) in figures.lines.iter().enumerate() {

@@ -28,6 +28,7 @@ pub const EXAMPLES: &[&str] = &[
     "excess",
     "ad-hoc",
     "uplift",
+    "open-rises",
     "winter",
 ];
 

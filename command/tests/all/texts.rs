@@ -29,6 +29,7 @@ fn kept_reports() {
         "excess",
         "ad-hoc",
         "uplift",
+        "open-rises",
         "winter",
     ] {
         let steps = run(&["steps"], &stored(&format!("examples/{name}.day"))).text();

@@ -190,9 +190,11 @@ fn first_row() {
         check_first_row(&day);
     }
     // Worked out by hand.
-    let text = run(&["uplift"], &stored("examples/uplift.day")).text();
-    let kept = String::from_utf8(stored("examples/uplift.uplift")).unwrap();
-    assert_eq!(text.lines().next(), kept.lines().next());
+    for name in ["uplift", "open-rises"] {
+        let text = run(&["uplift"], &stored(&format!("examples/{name}.day"))).text();
+        let kept = String::from_utf8(stored(&format!("examples/{name}.uplift"))).unwrap();
+        assert_eq!(text.lines().next(), kept.lines().next());
+    }
     for seed in 0..20 {
         check_first_row(&uplift_day(seed));
         check_first_row(&uplift_fault_day(seed));

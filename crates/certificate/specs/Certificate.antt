@@ -4,21 +4,21 @@
 -- Lines, steps and schedules are counted from 0.
 -- The cutter reads a line's own operating rows. Where an ad hoc record replaces one, it may refuse with 12 a line that settling accepts, and
 -- its clauses are of the lines that it accepts (document 02, F-5).
-use Prim.Native.Nat.{ℕ, zero, suc, _+_, _-_, _≤_, _<_}
+use Prim.Native.Nat.{ℕ, zero, suc, _+_, _*_, _-_, _≤_, _<_}
 use mathlib.Core.Path.{_≡_}
 use mathlib.Core.List.{List}
-use mathlib.Core.Bool.{true, false, cond}
+use mathlib.Core.Bool.{Bool, true, false, cond, _&&_}
 use lib.ListN.{getD}
-use lib.Dec.{ltb}
+use lib.Dec.{eqb, ltb}
 use lib.IntN.{ℤ, pos}
-use lib.Signed.{ltZ}
-use Rattle.rules.specs.Fold.{sumTo, sumZ, five, at}
-use Rattle.rules.specs.Layout.{excessMost, word, lineCount, lineAt, operatingTable}
-use Rattle.rules.specs.Steps.{greatestBreak}
+use lib.Signed.{ltZ, leZ}
+use Rattle.rules.specs.Fold.{sumTo, sumZ, someTo, allTo, five, at, atZ}
+use Rattle.rules.specs.Layout.{excessMost, word, lineCount, marketPrice, lineAt, side, operatingTable}
+use Rattle.rules.specs.Steps.{greatestBreak, paid}
 use Rattle.rules.specs.Quantities.{pricingTotal, tableTotal, tableActual}
 use Rattle.rules.specs.InForce.{operatingTotal, effectiveActual}
 use Rattle.rules.specs.Matching.{rise, fall}
-use Rattle.rules.specs.Payments.{stepFinal}
+use Rattle.rules.specs.Payments.{beyondBy, stepFinal}
 use Rattle.rules.specs.Days.{stepOf}
 use Rattle.rules.specs.Totals.{linePayment}
 use Rattle.rules.specs.Viewing.{figuresOf}
@@ -44,6 +44,35 @@ matchesMade v s = sumTo s (matchIn v s)
 
 unfoldable pub matchesWith : View → ℕ → ℕ
 matchesWith v r = sumTo 5 (λ s. matchIn v s r)
+
+-- Document 02, F-14, of a step of line k of the day d, whose view is v. Whether it is paid in the first n schedules: "paid in all five
+-- schedules" where n is 5
+unfoldable pub paidTo : List ℕ → ℕ → View → ℕ → Bool
+paidTo d k v n = allTo n (paid (lineAt d k) (v .end))
+
+-- "the rate" R(s): the view's price, which is the capped one, beyond the day's market price
+unfoldable pub rateIn : List ℕ → ℕ → View → ℕ → ℕ
+rateIn d k v s = beyondBy (side (lineAt d k)) (at (v .price) s) (marketPrice d s)
+
+-- "after each schedule, the running sum of modified payments"
+unfoldable pub runningSum : View → ℕ → ℤ
+runningSum v s = sumZ (suc s) (atZ (v .modified))
+
+-- what is open after s of the rise of r: U(r) less m(r, q) for each q up to s, which are no more than it (clause `rises`)
+unfoldable pub openIn : View → ℕ → ℕ → ℕ
+openIn v s r = rise (v .constrained) r - sumTo (suc s) (λ q. matchIn v q r)
+
+-- "the open rises, each at the rate of the schedule where it rose"
+unfoldable pub openRisesIn : List ℕ → ℕ → View → ℕ → ℕ
+openRisesIn d k v s = sumTo (suc s) (λ r. openIn v s r * rateIn d k v r)
+
+-- whether a fall so far "came at a rate of 0": D(q) above 0, R(q) = 0
+unfoldable pub fellAtZero : List ℕ → ℕ → View → ℕ → Bool
+fellAtZero d k v s = someTo (suc s) (λ q. ltb 0 (fall (v .constrained) q) && eqb (rateIn d k v q) 0)
+
+-- what such falls took of earlier rises, each at the rate of the schedule where it rose
+unfoldable pub keptAtZero : List ℕ → ℕ → View → ℕ → ℕ
+keptAtZero d k v s = sumTo (suc s) (λ q. cond (eqb (rateIn d k v q) 0) (sumTo q (λ r. matchIn v q r * rateIn d k v r)) 0)
 
 -- the book's adjusted total of s, and its five payments of line k
 unfoldable pub adjustedIn : List ℕ → ℕ → ℤ
@@ -83,6 +112,13 @@ pub record CertifiedSteps (steps : ℕ → ℕ) (operating : ℕ → ℕ → ℕ
   pub rises : (k j r : ℕ) → k < lineCount d → j < steps k → r < 5 → matchesWith (view k j) r ≤ rise (view k j .constrained) r
   -- "for every s, the sum of U(1) to U(s), less all matches made in schedules up to s, is C(s)", said as a sum
   pub balance : (k j s : ℕ) → k < lineCount d → j < steps k → s < 5 → sumTo (suc s) (rise (view k j .constrained)) ≡ at (view k j .constrained) s + sumTo (suc s) (matchesMade (view k j))
+  -- document 02, F-14, on a step paid in all five schedules: "after each schedule, the running sum of modified payments is at least the open
+  -- rises, each at the rate of the schedule where it rose"
+  pub running-least : (k j s : ℕ) → k < lineCount d → j < steps k → s < 5 → paidTo d k (view k j) 5 ≡ true → leZ (pos (openRisesIn d k (view k j) s)) (runningSum (view k j) s) ≡ true
+  -- "It is exactly that where no fall so far came at a rate of 0"
+  pub running-exact : (k j s : ℕ) → k < lineCount d → j < steps k → s < 5 → paidTo d k (view k j) 5 ≡ true → fellAtZero d k (view k j) s ≡ false → runningSum (view k j) s ≡ pos (openRisesIn d k (view k j) s)
+  -- the exact difference, from which both follow, on a step paid in the schedules so far: what falls at a rate of 0 took
+  pub running-difference : (k j s : ℕ) → k < lineCount d → j < steps k → s < 5 → paidTo d k (view k j) (suc s) ≡ true → runningSum (view k j) s ≡ pos (openRisesIn d k (view k j) s + keptAtZero d k (view k j) s)
   -- "All payments in the book are the five of each of its n lines": the five adjusted totals add up to them
   pub lines : word book 0 ≡ lineCount d
   pub adjusted-sum : sumZ 5 (adjustedIn book) ≡ sumZ (word book 0) (paymentsIn book)

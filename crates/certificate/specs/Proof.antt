@@ -6,7 +6,7 @@ use mathlib.Core.List.{List, _++_}
 use mathlib.Core.Bool.{true, false}
 use lib.ListN.{length, drop}
 use lib.IntN.{pos}
-use lib.Signed.{ltZ}
+use lib.Signed.{ltZ, leZ}
 use Rattle.rules.specs.Fold.{sumTo, sumZ, five, at}
 use Rattle.rules.specs.Layout.{excessMost, word, adHoc, recordCount, lineCount, lineAt, operatingTable}
 use Rattle.rules.specs.Steps.{greatestBreak, stepCount}
@@ -30,7 +30,7 @@ use Rattle.laws.specs.Ints.{ltZ-yes, le-ltZ}
 use Rattle.day_totals.specs.Sizes.{mag-size, adjusted-size}
 use Rattle.book_layout.specs.Reading.{signedAt}
 use Rattle.book_layout.specs.Framing.{paymentAt, bookCount, book-words, book-count, book-adjusted, book-payment, after-settling}
-use Rattle.certificate.specs.Certificate.{CertifiedSteps, Certified, CertifiedOwn, matchIn, matchesMade, matchesWith, adjustedIn, paymentsIn}
+use Rattle.certificate.specs.Certificate.{CertifiedSteps, Certified, CertifiedOwn, matchIn, matchesMade, matchesWith, paidTo, runningSum, openRisesIn, fellAtZero, keptAtZero, adjustedIn, paymentsIn}
 use Rattle.step_quantities.specs.Bounds.{aginoOn-most, msiqOn-most}
 use Rattle.step_quantities.specs.Adding.{RisingEnds, stepPricing, stepOperating, stepActual, stepConstrained, excess-pricing, excess-operating, excess-actual, pricing-adds-up, operating-adds-up, actual-adds-up, constrained-adds-up}
 use Rattle.step_matching.specs.Balance.{matchedWith, matchesIn, falls-matched, rises-bound, rises-balance}
@@ -43,7 +43,8 @@ use Rattle.day_totals.specs.Money.{linePayments, adjusted-payments, adjusted-or
 use Rattle.certificate.specs.Within.{withinBid, dayWithin, withoutExcess}
 use Rattle.certificate.specs.Excess.{view-within, payment-within}
 use Rattle.certificate.specs.Refused.{refused-with-twelve, own-taken}
-use Rattle.certificate.specs.Answers.{view-whole, view-past, settle-taken, end-at, width-at, match-at}
+use Rattle.certificate.specs.Answers.{view-whole, view-past, settle-taken, end-at, width-at}
+use Rattle.certificate.specs.Running.{paid-part, match-is, view-difference, view-least, view-exact}
 
 module _ (d : List ℕ) (h : dayFault d ≡ 0) where
   -- gas and matches, of views that are the whole ones, with the steps, the operating totals and the effective actual of each line
@@ -144,14 +145,10 @@ module _ (d : List ℕ) (h : dayFault d ≡ 0) where
         rw (view-is k j l g, at-five (msiqOn x) 0 s i, at-five (pricingOn x) 0 s i) (msiqOn-most x s i)
 
     -- m and C of a step of the view are the definitions'
-    match-is : (k j s r : ℕ) → s < 5 → matchIn (viewOf d k j) s r ≡ matched (onStep (stepOf d k j)) s r
-    unfolding viewOf
-    match-is k j s r l = match-at (viewOf d k j) (onStep (stepOf d k j)) refl s r l
-
     made-is : (k j s : ℕ) → s < 5 → matchesMade (viewOf d k j) s ≡ sumTo s (matched (onStep (stepOf d k j)) s)
     unfolding matchesMade
     made-is k j s l =
-        sum-same s (matchIn (viewOf d k j) s) (matched (onStep (stepOf d k j)) s) (λ r g. match-is k j s r l)
+        sum-same s (matchIn (viewOf d k j) s) (matched (onStep (stepOf d k j)) s) (λ r g. match-is d k j s r l)
 
     falls : (k j s : ℕ) → k < lineCount d → j < steps k → s < 5 → matchesMade (view k j) s ≡ fall (view k j .constrained) s
     unfolding viewOf
@@ -161,7 +158,7 @@ module _ (d : List ℕ) (h : dayFault d ≡ 0) where
     unfolding viewOf matchesWith matchedWith
     rises k j r l g i =
         let c = onStep (stepOf d k j) in
-        let e = sum-same 5 (λ s. matchIn (viewOf d k j) s r) (λ s. matched c s r) (λ s n. match-is k j s r n) in
+        let e = sum-same 5 (λ s. matchIn (viewOf d k j) s r) (λ s. matched c s r) (λ s n. match-is d k j s r n) in
         rw (view-is k j l g, e) (rises-bound c 5 r)
 
     balance : (k j s : ℕ) → k < lineCount d → j < steps k → s < 5 → sumTo (suc s) (rise (view k j .constrained)) ≡ at (view k j .constrained) s + sumTo (suc s) (matchesMade (view k j))
@@ -170,6 +167,20 @@ module _ (d : List ℕ) (h : dayFault d ≡ 0) where
         let c = onStep (stepOf d k j) in
         let e = sum-same (suc s) (matchesMade (viewOf d k j)) (λ n. sumTo n (matched c n)) (λ n m. made-is k j n (omega arith)) in
         rw (view-is k j l g, e) (rises-balance c s)
+
+    -- document 02, F-14: paid in all five schedules, so in those up to s
+    paid-so-far : (k j s : ℕ) → k < lineCount d → j < steps k → s < 5 → paidTo d k (view k j) 5 ≡ true → paidTo d k (viewOf d k j) (suc s) ≡ true
+    paid-so-far k j s l g i p = paid-part d k (viewOf d k j) 5 (suc s) (omega arith) (rw (view-is k j l g) at p)
+
+    running-least : (k j s : ℕ) → k < lineCount d → j < steps k → s < 5 → paidTo d k (view k j) 5 ≡ true → leZ (pos (openRisesIn d k (view k j) s)) (runningSum (view k j) s) ≡ true
+    running-least k j s l g i p = rw (view-is k j l g) (view-least d k j s i (paid-so-far k j s l g i p))
+
+    running-exact : (k j s : ℕ) → k < lineCount d → j < steps k → s < 5 → paidTo d k (view k j) 5 ≡ true → fellAtZero d k (view k j) s ≡ false → runningSum (view k j) s ≡ pos (openRisesIn d k (view k j) s)
+    running-exact k j s l g i p z =
+        rw (view-is k j l g) (view-exact d k j s i (paid-so-far k j s l g i p) (rw (view-is k j l g) at z))
+
+    running-difference : (k j s : ℕ) → k < lineCount d → j < steps k → s < 5 → paidTo d k (view k j) (suc s) ≡ true → runningSum (view k j) s ≡ pos (openRisesIn d k (view k j) s + keptAtZero d k (view k j) s)
+    running-difference k j s l g i p = rw (view-is k j l g) (view-difference d k j s i (rw (view-is k j l g) at p))
 
 -- money, read back out of the book of a day within the limits, with other bytes behind it
 module _ (y : Day) (z : DaySized y) (rest : List ℕ) where
@@ -246,6 +257,9 @@ module _ (d b : List ℕ) (view : ℕ → ℕ → View) (h : dayFault d ≡ 0) (
         falls = falls d h view vs n ns o os a acs;
         rises = rises d h view vs n ns o os a acs;
         balance = balance d h view vs n ns o os a acs;
+        running-least = running-least d h view vs n ns o os a acs;
+        running-exact = running-exact d h view vs n ns o os a acs;
+        running-difference = running-difference d h view vs n ns o os a acs;
         lines = lines-is y z rest;
         adjusted-sum = sum-is y z rest;
         adjusted-order = order-is y z rest;

@@ -21,7 +21,8 @@ use Rattle.rules.specs.Worked.Lemma.{base-2-accepted}
 use Rattle.rules.specs.Worked.Pulled0.{pulled0Words, pulled0Day}
 use Rattle.rules.specs.Worked.Excess0.{excess0Words, excess0Day}
 use Rattle.rules.specs.Worked.AdHoc0.{adHoc0Words, adHoc0Day}
-use Rattle.rules.specs.Worked.HandDays.{reschedule-accepted, pulled-0-accepted, excess-0-accepted, ad-hoc-0-accepted}
+use Rattle.rules.specs.Worked.OpenRises.{openRisesWords, openRisesDay}
+use Rattle.rules.specs.Worked.HandDays.{reschedule-accepted, pulled-0-accepted, excess-0-accepted, ad-hoc-0-accepted, open-rises-accepted}
 use Rattle.laws.specs.Folds.{sum-same}
 use Rattle.cutter.specs.Certificate.{widthAt}
 use Rattle.certificate.specs.Certificate.{Certified}
@@ -83,6 +84,13 @@ ad-hoc-uplift b l = uplift-certified adHoc0Day b (bookAfter adHoc0Day b) (uplift
 pub ad-hoc-line-refused : cutAnswer (lineAt adHoc0Day 0) .number ≡ 12
 unfolding opened adHoc0Words adHoc0Day
 ad-hoc-line-refused = refl
+
+-- And so is one with open rises, on both sides, and falls at a rate of 0 (document 02, F-14; `open-rises` in rules); more on it in RunningDays
+pub open-rises-certified : (b : List ℕ) → 264 ≤ length b → Certified openRisesDay (bookAfter openRisesDay b) (viewAnswer openRisesDay) (λ k. cutAnswer (lineAt openRisesDay k))
+unfolding openRisesWords openRisesDay
+open-rises-certified b l =
+    certified openRisesDay b (bookAfter openRisesDay b) (viewAnswer openRisesDay) (λ k. cutAnswer (lineAt openRisesDay k))
+    open-rises-accepted l refl (λ k j. refl) (λ k. refl)
 
 -- the cutter alone covers a line that it accepts: its own widths add up to the greatest break
 pub cutter-covers : (d book : List ℕ) (view : ℕ → ℕ → View) (cut : ℕ → Cut) → Certified d book view cut → (k : ℕ) → k < lineCount d → cut k .number ≡ 0 → sumTo (cut k .count) (widthAt (cut k)) ≡ greatestBreak (lineAt d k)

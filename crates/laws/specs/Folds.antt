@@ -11,7 +11,7 @@ use mathlib.Core.Bool.{Bool, true, false, not, _||_, true≢false, false≢true,
 use lib.ListN.{length, getD, length-append, List·getD-append}
 use lib.Seq.{getD-append-seam}
 use lib.IntN.{ℤ, pos, _+ℤ_}
-use Rattle.rules.specs.Fold.{refuse, _orElse_, first, sumTo, sumZ, mostTo, someTo, joined, listTo, before, five}
+use Rattle.rules.specs.Fold.{refuse, _orElse_, first, sumTo, sumZ, mostTo, someTo, allTo, joined, listTo, before, five}
 
 -- refuse and orElse
 pub refuse-false : (n : ℕ) → refuse n false ≡ 0
@@ -193,6 +193,56 @@ some-suc n p = refl
 pub some-same : (n : ℕ) (p q : ℕ → Bool) → ((i : ℕ) → i < n → p i ≡ q i) → someTo n p ≡ someTo n q
 some-same zero p q h = some-none p ∙ sym (some-none q)
 some-same (suc n) p q h = rw (some-suc n p, some-suc n q, some-same n p q (λ i l. h i (omega arith)), h n (omega arith))
+
+-- none does
+or-left : (a b : Bool) → (a || b) ≡ false → a ≡ false
+or-left true b e = e
+or-left false b e = refl
+
+or-right : (a b : Bool) → (a || b) ≡ false → b ≡ false
+or-right true b e = absurd (true≢false e)
+or-right false b e = e
+
+pub some-no : (n : ℕ) (p : ℕ → Bool) → someTo n p ≡ false → (i : ℕ) → i < n → p i ≡ false
+some-no zero p e i h = absurd (omega arith)
+some-no (suc n) p e i h =
+    let f : (someTo n p || p n) ≡ false = rw some-suc at e in
+    let r = some-no n p (or-left (someTo n p) (p n) f) i in
+    elim (decLt i n) [
+      | yes l ↦ r l
+      | no g ↦ let q : i ≡ n = omega arith in rw q (or-right (someTo n p) (p n) f)
+    ]
+
+-- whether each holds
+all-suc : (n : ℕ) (p : ℕ → Bool) → allTo (suc n) p ≡ (allTo n p && p n)
+unfolding allTo
+all-suc n p = refl
+
+all-none : (p : ℕ → Bool) → allTo 0 p ≡ true
+unfolding allTo
+all-none p = refl
+
+and-left : (a b : Bool) → (a && b) ≡ true → a ≡ true
+and-left true b e = refl
+and-left false b e = absurd (false≢true e)
+
+and-right : (a b : Bool) → (a && b) ≡ true → b ≡ true
+and-right true b e = e
+and-right false b e = absurd (false≢true e)
+
+pub all-yes : (n : ℕ) (p : ℕ → Bool) → allTo n p ≡ true → (i : ℕ) → i < n → p i ≡ true
+all-yes zero p e i h = absurd (omega arith)
+all-yes (suc n) p e i h =
+    let f : (allTo n p && p n) ≡ true = rw all-suc at e in
+    let r = all-yes n p (and-left (allTo n p) (p n) f) i in
+    elim (decLt i n) [
+      | yes l ↦ r l
+      | no g ↦ let q : i ≡ n = omega arith in rw q (and-right (allTo n p) (p n) f)
+    ]
+
+pub yes-all : (n : ℕ) (p : ℕ → Bool) → ((i : ℕ) → i < n → p i ≡ true) → allTo n p ≡ true
+yes-all zero p h = all-none p
+yes-all (suc n) p h = rw (all-suc n p, yes-all n p (λ i l. h i (omega arith)), h n (omega arith))
 
 -- lists one after another
 pub joined-none : (f : ℕ → List ℕ) → joined 0 f ≡ []

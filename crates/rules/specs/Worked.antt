@@ -4,9 +4,10 @@
 -- slightly over the bid and ad hoc schedules a day worked by hand (Reschedule, Pulled0, Excess0, AdHoc0; HandDays), and three of that
 -- implementation's and the refusals (Accredited1 to Accredited3, Pulled1 to Pulled3, Excess1 to Excess3, AdHoc1 to AdHoc3; Later; the refusals of
 -- ad hoc schedules are AdHocRefused, in HandDays). Of its days that implementation's report and steps were taken; their books are written from
--- the report by document 01's layout. Of uplift by schedule: rows of totals (UpliftRows) and days (UpliftDays, Later). Single definitions on small
--- cases (SmallCases) and on small lines and files (SmallLines). A lemma names the one computed before it, in this order: small-cases, uplift-rows,
--- by-hand, small-lines, figures, uplift-days, hand-days, ad-hoc-refused, worked, and those of Later.
+-- the report by document 01's layout. Of uplift by schedule: rows of totals (UpliftRows) and days (UpliftDays, Later). Of no shipper out of pocket
+-- by a smaller bid: a day worked by hand (OpenRises; HandDays). Single definitions on small cases (SmallCases) and on small lines and files
+-- (SmallLines). A lemma names the one computed before it, in this order: small-cases, uplift-rows, by-hand, small-lines, figures, uplift-days,
+-- hand-days, ad-hoc-refused, worked, and those of Later.
 pub mod Cases
 pub mod Opened
 pub mod TableLine
@@ -34,6 +35,7 @@ pub mod AdHoc0
 pub mod AdHoc1
 pub mod AdHoc2
 pub mod AdHoc3
+pub mod OpenRises
 pub mod Refused
 pub mod AdHocRefused
 pub mod Laws

@@ -70,7 +70,7 @@ falls-matched c s =
 unfoldable pub matchedWith : List ℕ → ℕ → ℕ → ℕ
 matchedWith c r s = matched c s r
 
-none-before : (c : List ℕ) (r n : ℕ) → n ≤ suc r → sumTo n (matchedWith c r) ≡ 0
+pub none-before : (c : List ℕ) (r n : ℕ) → n ≤ suc r → sumTo n (matchedWith c r) ≡ 0
 unfolding matchedWith
 none-before c r n h = omega (arith, sum-most n 0 (matchedWith c r) (λ t l. omega (arith, matched-out c t r (omega arith))))
 

@@ -6,13 +6,13 @@ use native.Mathlib.Decide.{decLt, ℕ-discrete}
 use native.Mathlib.Omega.{arith}
 use mathlib.Core.Path.{_≡_, refl, sym, _∙_}
 use mathlib.Core.List.{List}
-use mathlib.Core.Bool.{Bool, true, false, cond, _&&_, _||_, false≢true}
+use mathlib.Core.Bool.{Bool, true, false, cond, _||_, false≢true}
 use borrow.Author.Tests.{lt-ltb}
 use lib.IntN.{ℤ, pos, negsuc, natAbs, _+ℤ_}
-use Rattle.rules.specs.Fold.{sumTo, sumZ, allTo, atZ}
+use Rattle.rules.specs.Fold.{sumTo, sumZ, atZ}
 use Rattle.rules.specs.Totals.{carried, adjusted}
 use Rattle.rules.specs.Uplift.{above, below, allFrom, sameGroup, groupTotal, groupAdjusted}
-use Rattle.laws.specs.Folds.{sum-none, sum-suc, sum-le, sum-same, sum-term, sumZ-none, sumZ-suc}
+use Rattle.laws.specs.Folds.{sum-none, sum-suc, sum-le, sum-same, sum-term, sumZ-none, sumZ-suc, all-yes, yes-all}
 use Rattle.laws.specs.Ints.{pl, mi, apart, eqZ, pl-add, mi-add, ltZ-yes, le-ltZ}
 use Rattle.day_totals.specs.Parts.{isKept, Case, case-of}
 use Rattle.day_totals.specs.Balance.{kept-whole, left-before}
@@ -121,37 +121,6 @@ sum-among b n m f h =
     let s = sum-of b n g (λ q l. member-only b (m q) (f q) (h q l)) in
     let e = sum-same n (λ q. natAbs (g q)) (among m (λ q. natAbs (f q))) (λ q l. member-size (m q) (f q)) in
     record { size = s .size ∙ e; only = s .only }
-
--- whether each of p 0 .. p (n - 1) holds
-all-suc : (n : ℕ) (p : ℕ → Bool) → allTo (suc n) p ≡ (allTo n p && p n)
-unfolding allTo
-all-suc n p = refl
-
-all-none : (p : ℕ → Bool) → allTo 0 p ≡ true
-unfolding allTo
-all-none p = refl
-
-and-left : (a b : Bool) → (a && b) ≡ true → a ≡ true
-and-left true b e = refl
-and-left false b e = absurd (false≢true e)
-
-and-right : (a b : Bool) → (a && b) ≡ true → b ≡ true
-and-right true b e = e
-and-right false b e = absurd (false≢true e)
-
-all-yes : (n : ℕ) (p : ℕ → Bool) → allTo n p ≡ true → (i : ℕ) → i < n → p i ≡ true
-all-yes zero p e i h = absurd (omega arith)
-all-yes (suc n) p e i h =
-    let f : (allTo n p && p n) ≡ true = rw all-suc at e in
-    let r = all-yes n p (and-left (allTo n p) (p n) f) i in
-    elim (decLt i n) [
-      | yes l ↦ r l
-      | no g ↦ let q : i ≡ n = omega arith in rw q (and-right (allTo n p) (p n) f)
-    ]
-
-yes-all : (n : ℕ) (p : ℕ → Bool) → ((i : ℕ) → i < n → p i ≡ true) → allTo n p ≡ true
-yes-all zero p h = all-none p
-yes-all (suc n) p h = rw (all-suc n p, yes-all n p (λ i l. h i (omega arith)), h n (omega arith))
 
 -- all totals from s to q, in either order, have the sign b
 pub record Run (b : Bool) (t : List ℤ) (s q : ℕ) : Type 0 where

@@ -14,12 +14,24 @@ use reference::refusal::line_part_number;
 use reference::table1;
 use std::collections::BTreeSet;
 use std::fmt::Write;
-use std::path::Path;
+use std::path::{Path, PathBuf};
+
+/// A path of the repository.
+fn at_root(path: &str) -> PathBuf {
+    Path::new(env!("CARGO_MANIFEST_DIR")).join("..").join(path)
+}
 
 /// A file of the repository.
 fn stored(path: &str) -> Vec<u8> {
-    let root = Path::new(env!("CARGO_MANIFEST_DIR")).join("..");
-    std::fs::read(root.join(path)).unwrap()
+    std::fs::read(at_root(path)).unwrap()
+}
+
+/// The days of a folder of the repository, refused ones too.
+pub fn days_in(folder: &str) -> Vec<Vec<u8>> {
+    let files = std::fs::read_dir(at_root(folder)).unwrap();
+    let paths = files.map(|file| file.unwrap().path());
+    let days = paths.filter(|path| path.extension().is_some_and(|ending| ending == "day"));
+    days.map(|path| std::fs::read(path).unwrap()).collect()
 }
 
 /// A file beside a crate's sources.
@@ -98,12 +110,15 @@ fn worked_by_hand() {
         "excess",
         "ad-hoc",
         "uplift",
+        "open-rises",
         "winter",
     ] {
         assert_stored(name, "settle", "report");
         assert_stored(name, "steps", "steps");
     }
-    assert_stored("uplift", "uplift", "uplift");
+    for name in ["uplift", "open-rises"] {
+        assert_stored(name, "uplift", "uplift");
+    }
 }
 
 /// The program prints the example day's file of this ending.

@@ -6,7 +6,7 @@ use std::collections::BTreeSet;
 
 pub type Five = [i128; 5];
 
-fn five(f: impl Fn(usize) -> i128) -> Five {
+pub fn five(f: impl Fn(usize) -> i128) -> Five {
     std::array::from_fn(f)
 }
 
@@ -244,7 +244,7 @@ impl Terms<'_> {
     }
 }
 
-fn change(view: &View, s: usize) -> i128 {
+pub fn change(view: &View, s: usize) -> i128 {
     let c = view.constrained_on.map(i128::from);
     c[s] - if s == 0 { 0 } else { c[s - 1] }
 }

@@ -16,6 +16,7 @@ use Rattle.rules.specs.Worked.Pulled0.{pulled0Day, pulled0Book, pulled0T
 use Rattle.rules.specs.Worked.AdHoc0.{adHoc0Day, adHoc0Book, adHoc0Text, adHoc0CasesOn, adHoc0Cases, adHoc0Opened}
 use Rattle.rules.specs.Worked.AdHocRefused.{adHocRefusedCases, adHocRefusedOpened}
 use Rattle.rules.specs.Worked.Excess0.{excess0Day, excess0Book, excess0Text, excess0CasesOn, excess0Cases, excess0Opened}
+use Rattle.rules.specs.Worked.OpenRises.{openRisesDay, openRisesBook, openRisesText, openRisesCasesOn, openRisesCases, openRisesOpened}
 
 -- F-1: t = 200000000 1570000000 40000000 -450000000 -300000000, a = 200000000 860000000 0 0 0: of 1,810,000,000 the first group keeps 1,060,000,000;
 -- 117127071 + 149/181, 919447513 + 147/181 and 23425414 + 66/181 leave two units
@@ -23,11 +24,11 @@ abbrev adHoc0Uplift : List Case
 adHoc0Uplift = answered adHoc0Day 0 (117127072 ∷ 919447514 ∷ 23425414 ∷ 0 ∷ 0 ∷ []) ∷ []
 
 abbrev handParts : List (List Case)
-handParts = adHoc0Cases ∷ excess0Cases ∷ rescheduleCases ∷ pulled0Cases ∷ adHoc0Uplift ∷ []
+handParts = adHoc0Cases ∷ excess0Cases ∷ rescheduleCases ∷ pulled0Cases ∷ adHoc0Uplift ∷ openRisesCases ∷ []
 
 -- it names the lemma of F-1's days, which names K1 to K10's: where those are refused this is not computed
 pub hand-days : every (all handParts) ≡ true
-unfolding opened adHoc0Opened excess0Opened rescheduleOpened pulled0Opened
+unfolding opened adHoc0Opened excess0Opened rescheduleOpened pulled0Opened openRisesOpened
 hand-days = let k = uplift-days in refl
 
 -- F-5's refusals; it names the days by hand, so that where those are refused this is not computed
@@ -50,6 +51,9 @@ pulled-0 = part-holds handParts hand-days 3
 
 pub ad-hoc-0-uplift : every adHoc0Uplift ≡ true
 ad-hoc-0-uplift = part-holds handParts hand-days 4
+
+pub open-rises : every openRisesCases ≡ true
+open-rises = part-holds handParts hand-days 5
 
 -- F-5: the day is accepted, its book with a lent byte beyond unchanged, and its report
 pub ad-hoc-0-accepted : dayFault adHoc0Day ≡ 0
@@ -102,3 +106,16 @@ pulled-0-book = case-holds pulled0Cases pulled-0 1
 pub pulled-0-report : reportText pulled0Day ≡ pulled0Text
 unfolding pulled0CasesOn pulled0Cases
 pulled-0-report = case-holds pulled0Cases pulled-0 2
+
+-- F-14
+pub open-rises-accepted : dayFault openRisesDay ≡ 0
+unfolding openRisesCasesOn openRisesCases
+open-rises-accepted = number-holds (dayFault openRisesDay) 0 (case-holds openRisesCases open-rises 0)
+
+pub open-rises-book : bookAfter openRisesDay (replicate 265 170) ≡ openRisesBook ++ (170 ∷ [])
+unfolding openRisesCasesOn openRisesCases
+open-rises-book = case-holds openRisesCases open-rises 1
+
+pub open-rises-report : reportText openRisesDay ≡ openRisesText
+unfolding openRisesCasesOn openRisesCases
+open-rises-report = case-holds openRisesCases open-rises 2
