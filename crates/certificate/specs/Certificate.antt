@@ -1,6 +1,7 @@
 -- THE CERTIFICATE: demand 3 on one accepted day (document 01, "Matching", "Totals and book"), one field for each clause.
 -- It is stated of answers: `book` is the lent book as settling leaves it, `view k j` the step view's answer for step j of line k, `cut k`
--- the cutter's for the bytes of line k. Two clauses compare them with the definitions on a day whose quantities are within M (Within.antt).
+-- the cutter's for the bytes of line k. Two clauses compare them with the definitions on a day whose quantities are within M (Within.antt); the
+-- three on the running sum read the day's market prices, the line's side and where the step is paid.
 -- Lines, steps and schedules are counted from 0.
 -- The cutter reads a line's own operating rows. Where an ad hoc record replaces one, it may refuse with 12 a line that settling accepts, and
 -- its clauses are of the lines that it accepts (document 02, F-5).
@@ -47,8 +48,8 @@ matchesWith v r = sumTo 5 (λ s. matchIn v s r)
 
 -- Document 02, F-14, of a step of line k of the day d, whose view is v. Whether it is paid in the first n schedules: "paid in all five
 -- schedules" where n is 5
-unfoldable pub paidTo : List ℕ → ℕ → View → ℕ → Bool
-paidTo d k v n = allTo n (paid (lineAt d k) (v .end))
+unfoldable pub paidUpTo : List ℕ → ℕ → View → ℕ → Bool
+paidUpTo d k v n = allTo n (paid (lineAt d k) (v .end))
 
 -- "the rate" R(s): the view's price, which is the capped one, beyond the day's market price
 unfoldable pub rateIn : List ℕ → ℕ → View → ℕ → ℕ
@@ -63,16 +64,16 @@ unfoldable pub openIn : View → ℕ → ℕ → ℕ
 openIn v s r = rise (v .constrained) r - sumTo (suc s) (λ q. matchIn v q r)
 
 -- "the open rises, each at the rate of the schedule where it rose"
-unfoldable pub openRisesIn : List ℕ → ℕ → View → ℕ → ℕ
-openRisesIn d k v s = sumTo (suc s) (λ r. openIn v s r * rateIn d k v r)
+unfoldable pub openAtRates : List ℕ → ℕ → View → ℕ → ℕ
+openAtRates d k v s = sumTo (suc s) (λ r. openIn v s r * rateIn d k v r)
 
 -- whether a fall so far "came at a rate of 0": D(q) above 0, R(q) = 0
 unfoldable pub fellAtZero : List ℕ → ℕ → View → ℕ → Bool
 fellAtZero d k v s = someTo (suc s) (λ q. ltb 0 (fall (v .constrained) q) && eqb (rateIn d k v q) 0)
 
 -- what such falls took of earlier rises, each at the rate of the schedule where it rose
-unfoldable pub keptAtZero : List ℕ → ℕ → View → ℕ → ℕ
-keptAtZero d k v s = sumTo (suc s) (λ q. cond (eqb (rateIn d k v q) 0) (sumTo q (λ r. matchIn v q r * rateIn d k v r)) 0)
+unfoldable pub takenAtZero : List ℕ → ℕ → View → ℕ → ℕ
+takenAtZero d k v s = sumTo (suc s) (λ q. cond (eqb (rateIn d k v q) 0) (sumTo q (λ r. matchIn v q r * rateIn d k v r)) 0)
 
 -- the book's adjusted total of s, and its five payments of line k
 unfoldable pub adjustedIn : List ℕ → ℕ → ℤ
@@ -114,11 +115,11 @@ pub record CertifiedSteps (steps : ℕ → ℕ) (operating : ℕ → ℕ → ℕ
   pub balance : (k j s : ℕ) → k < lineCount d → j < steps k → s < 5 → sumTo (suc s) (rise (view k j .constrained)) ≡ at (view k j .constrained) s + sumTo (suc s) (matchesMade (view k j))
   -- document 02, F-14, on a step paid in all five schedules: "after each schedule, the running sum of modified payments is at least the open
   -- rises, each at the rate of the schedule where it rose"
-  pub running-least : (k j s : ℕ) → k < lineCount d → j < steps k → s < 5 → paidTo d k (view k j) 5 ≡ true → leZ (pos (openRisesIn d k (view k j) s)) (runningSum (view k j) s) ≡ true
+  pub running-least : (k j s : ℕ) → k < lineCount d → j < steps k → s < 5 → paidUpTo d k (view k j) 5 ≡ true → leZ (pos (openAtRates d k (view k j) s)) (runningSum (view k j) s) ≡ true
   -- "It is exactly that where no fall so far came at a rate of 0"
-  pub running-exact : (k j s : ℕ) → k < lineCount d → j < steps k → s < 5 → paidTo d k (view k j) 5 ≡ true → fellAtZero d k (view k j) s ≡ false → runningSum (view k j) s ≡ pos (openRisesIn d k (view k j) s)
+  pub running-exact : (k j s : ℕ) → k < lineCount d → j < steps k → s < 5 → paidUpTo d k (view k j) 5 ≡ true → fellAtZero d k (view k j) s ≡ false → runningSum (view k j) s ≡ pos (openAtRates d k (view k j) s)
   -- the exact difference, from which both follow, on a step paid in the schedules so far: what falls at a rate of 0 took
-  pub running-difference : (k j s : ℕ) → k < lineCount d → j < steps k → s < 5 → paidTo d k (view k j) (suc s) ≡ true → runningSum (view k j) s ≡ pos (openRisesIn d k (view k j) s + keptAtZero d k (view k j) s)
+  pub running-difference : (k j s : ℕ) → k < lineCount d → j < steps k → s < 5 → paidUpTo d k (view k j) (suc s) ≡ true → runningSum (view k j) s ≡ pos (openAtRates d k (view k j) s + takenAtZero d k (view k j) s)
   -- "All payments in the book are the five of each of its n lines": the five adjusted totals add up to them
   pub lines : word book 0 ≡ lineCount d
   pub adjusted-sum : sumZ 5 (adjustedIn book) ≡ sumZ (word book 0) (paymentsIn book)

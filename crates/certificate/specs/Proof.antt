@@ -30,7 +30,7 @@ use Rattle.laws.specs.Ints.{ltZ-yes, le-ltZ}
 use Rattle.day_totals.specs.Sizes.{mag-size, adjusted-size}
 use Rattle.book_layout.specs.Reading.{signedAt}
 use Rattle.book_layout.specs.Framing.{paymentAt, bookCount, book-words, book-count, book-adjusted, book-payment, after-settling}
-use Rattle.certificate.specs.Certificate.{CertifiedSteps, Certified, CertifiedOwn, matchIn, matchesMade, matchesWith, paidTo, runningSum, openRisesIn, fellAtZero, keptAtZero, adjustedIn, paymentsIn}
+use Rattle.certificate.specs.Certificate.{CertifiedSteps, Certified, CertifiedOwn, matchIn, matchesMade, matchesWith, paidUpTo, runningSum, openAtRates, fellAtZero, takenAtZero, adjustedIn, paymentsIn}
 use Rattle.step_quantities.specs.Bounds.{aginoOn-most, msiqOn-most}
 use Rattle.step_quantities.specs.Adding.{RisingEnds, stepPricing, stepOperating, stepActual, stepConstrained, excess-pricing, excess-operating, excess-actual, pricing-adds-up, operating-adds-up, actual-adds-up, constrained-adds-up}
 use Rattle.step_matching.specs.Balance.{matchedWith, matchesIn, falls-matched, rises-bound, rises-balance}
@@ -169,17 +169,17 @@ module _ (d : List ℕ) (h : dayFault d ≡ 0) where
         rw (view-is k j l g, e) (rises-balance c s)
 
     -- document 02, F-14: paid in all five schedules, so in those up to s
-    paid-so-far : (k j s : ℕ) → k < lineCount d → j < steps k → s < 5 → paidTo d k (view k j) 5 ≡ true → paidTo d k (viewOf d k j) (suc s) ≡ true
+    paid-so-far : (k j s : ℕ) → k < lineCount d → j < steps k → s < 5 → paidUpTo d k (view k j) 5 ≡ true → paidUpTo d k (viewOf d k j) (suc s) ≡ true
     paid-so-far k j s l g i p = paid-part d k (viewOf d k j) 5 (suc s) (omega arith) (rw (view-is k j l g) at p)
 
-    running-least : (k j s : ℕ) → k < lineCount d → j < steps k → s < 5 → paidTo d k (view k j) 5 ≡ true → leZ (pos (openRisesIn d k (view k j) s)) (runningSum (view k j) s) ≡ true
+    running-least : (k j s : ℕ) → k < lineCount d → j < steps k → s < 5 → paidUpTo d k (view k j) 5 ≡ true → leZ (pos (openAtRates d k (view k j) s)) (runningSum (view k j) s) ≡ true
     running-least k j s l g i p = rw (view-is k j l g) (view-least d k j s i (paid-so-far k j s l g i p))
 
-    running-exact : (k j s : ℕ) → k < lineCount d → j < steps k → s < 5 → paidTo d k (view k j) 5 ≡ true → fellAtZero d k (view k j) s ≡ false → runningSum (view k j) s ≡ pos (openRisesIn d k (view k j) s)
+    running-exact : (k j s : ℕ) → k < lineCount d → j < steps k → s < 5 → paidUpTo d k (view k j) 5 ≡ true → fellAtZero d k (view k j) s ≡ false → runningSum (view k j) s ≡ pos (openAtRates d k (view k j) s)
     running-exact k j s l g i p z =
         rw (view-is k j l g) (view-exact d k j s i (paid-so-far k j s l g i p) (rw (view-is k j l g) at z))
 
-    running-difference : (k j s : ℕ) → k < lineCount d → j < steps k → s < 5 → paidTo d k (view k j) (suc s) ≡ true → runningSum (view k j) s ≡ pos (openRisesIn d k (view k j) s + keptAtZero d k (view k j) s)
+    running-difference : (k j s : ℕ) → k < lineCount d → j < steps k → s < 5 → paidUpTo d k (view k j) (suc s) ≡ true → runningSum (view k j) s ≡ pos (openAtRates d k (view k j) s + takenAtZero d k (view k j) s)
     running-difference k j s l g i p = rw (view-is k j l g) (view-difference d k j s i (rw (view-is k j l g) at p))
 
 -- money, read back out of the book of a day within the limits, with other bytes behind it

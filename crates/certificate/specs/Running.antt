@@ -20,13 +20,13 @@ use Rattle.laws.specs.Ints.{le-leZ}
 use Rattle.day_totals.specs.Sums.{sumZ-same}
 use Rattle.step_matching.specs.Balance.{matchedWith}
 use Rattle.step_matching.specs.OpenValue.{openBefore, openAt, openValue}
-use Rattle.step_payments.specs.Running.{keptIn, kept-none, running-sum}
-use Rattle.certificate.specs.Certificate.{matchIn, paidTo, rateIn, runningSum, openIn, openRisesIn, fellAtZero, keptAtZero}
+use Rattle.step_payments.specs.Running.{takenAtZeroOn, at-zero-none, running-sum}
+use Rattle.certificate.specs.Certificate.{matchIn, paidUpTo, rateIn, runningSum, openIn, openAtRates, fellAtZero, takenAtZero}
 use Rattle.certificate.specs.Answers.{match-at}
 
 -- paid in the first n schedules, so in the first m of them
-pub paid-part : (d : List ℕ) (k : ℕ) (v : View) (n m : ℕ) → m ≤ n → paidTo d k v n ≡ true → paidTo d k v m ≡ true
-unfolding paidTo
+pub paid-part : (d : List ℕ) (k : ℕ) (v : View) (n m : ℕ) → m ≤ n → paidUpTo d k v n ≡ true → paidUpTo d k v m ≡ true
+unfolding paidUpTo
 paid-part d k v n m l e = yes-all m (paid (lineAt d k) (v .end)) (λ q g. all-yes n (paid (lineAt d k) (v .end)) e q (omega arith))
 
 module _ (d : List ℕ) (k j : ℕ) where
@@ -56,8 +56,8 @@ module _ (d : List ℕ) (k j : ℕ) where
       ap (λ (taken : ℕ). rise c r - taken)
       (sum-same (suc s) (λ q. matchIn (viewOf d k j) q r) (λ q. matched c q r) (λ q g. match-is q r (omega arith)))
 
-  open-is : (s : ℕ) → s < 5 → openRisesIn d k (viewOf d k j) s ≡ openValue (onStep (stepOf d k j)) (rate (stepOf d k j)) (suc s)
-  unfolding openRisesIn openValue openAt
+  open-is : (s : ℕ) → s < 5 → openAtRates d k (viewOf d k j) s ≡ openValue (onStep (stepOf d k j)) (rate (stepOf d k j)) (suc s)
+  unfolding openAtRates openValue openAt
   open-is s l =
       let x = stepOf d k j in
       sum-same (suc s) (λ r. openIn (viewOf d k j) s r * rateIn d k (viewOf d k j) r) (λ r. openBefore (onStep x) (suc s) r * rate x r)
@@ -70,36 +70,36 @@ module _ (d : List ℕ) (k j : ℕ) where
       sum-same s (λ r. matchIn (viewOf d k j) s r * rateIn d k (viewOf d k j) r) (λ r. matched (onStep x) s r * rate x r)
       (λ r g. rw (match-is s r l, rate-is r (omega arith)))
 
-  kept-is : (s : ℕ) → s < 5 → keptAtZero d k (viewOf d k j) s ≡ sumTo (suc s) (keptIn (stepOf d k j))
-  unfolding keptAtZero keptIn
-  kept-is s l =
+  at-zero-is : (s : ℕ) → s < 5 → takenAtZero d k (viewOf d k j) s ≡ sumTo (suc s) (takenAtZeroOn (stepOf d k j))
+  unfolding takenAtZero takenAtZeroOn
+  at-zero-is s l =
       let x = stepOf d k j in
-      sum-same (suc s) _ (keptIn x)
+      sum-same (suc s) _ (takenAtZeroOn x)
       (λ q g. rw (rate-is q (omega arith)) (ap (λ (taken : ℕ). cond (eqb (rate x q) 0) taken 0) (taken-is q (omega arith))))
 
   -- the difference
-  pub view-difference : (s : ℕ) → s < 5 → paidTo d k (viewOf d k j) (suc s) ≡ true → runningSum (viewOf d k j) s ≡ pos (openRisesIn d k (viewOf d k j) s + keptAtZero d k (viewOf d k j) s)
-  unfolding paidTo
+  pub view-difference : (s : ℕ) → s < 5 → paidUpTo d k (viewOf d k j) (suc s) ≡ true → runningSum (viewOf d k j) s ≡ pos (openAtRates d k (viewOf d k j) s + takenAtZero d k (viewOf d k j) s)
+  unfolding paidUpTo
   view-difference s l p =
-      rw (sum-is s l, open-is s l, kept-is s l)
+      rw (sum-is s l, open-is s l, at-zero-is s l)
       (running-sum (stepOf d k j) (suc s)
       (λ q g. paid-is q (omega arith) (all-yes (suc s) (paid (lineAt d k) (viewOf d k j .end)) p q g)))
 
   -- at least
-  pub view-least : (s : ℕ) → s < 5 → paidTo d k (viewOf d k j) (suc s) ≡ true → leZ (pos (openRisesIn d k (viewOf d k j) s)) (runningSum (viewOf d k j) s) ≡ true
+  pub view-least : (s : ℕ) → s < 5 → paidUpTo d k (viewOf d k j) (suc s) ≡ true → leZ (pos (openAtRates d k (viewOf d k j) s)) (runningSum (viewOf d k j) s) ≡ true
   view-least s l p =
       let v = viewOf d k j in
       rw (view-difference s l p)
-      (le-leZ (pos (openRisesIn d k v s)) (pos (openRisesIn d k v s + keptAtZero d k v s)) (omega arith))
+      (le-leZ (pos (openAtRates d k v s)) (pos (openAtRates d k v s + takenAtZero d k v s)) (omega arith))
 
   -- exactly
-  none-kept : (s : ℕ) → s < 5 → fellAtZero d k (viewOf d k j) s ≡ false → keptAtZero d k (viewOf d k j) s ≡ 0
+  none-at-zero : (s : ℕ) → s < 5 → fellAtZero d k (viewOf d k j) s ≡ false → takenAtZero d k (viewOf d k j) s ≡ 0
   unfolding fellAtZero viewOf
-  none-kept s l z =
+  none-at-zero s l z =
       let x = stepOf d k j in
-      let each : (q : ℕ) → q < suc s → keptIn x q ≤ 0 =
-      λ q g. omega (arith, kept-none x q (rw (rate-is q (omega arith)) at (some-no (suc s) _ z q g))) in
-      omega (arith, kept-is s l, sum-most (suc s) 0 (keptIn x) each)
+      let each : (q : ℕ) → q < suc s → takenAtZeroOn x q ≤ 0 =
+      λ q g. omega (arith, at-zero-none x q (rw (rate-is q (omega arith)) at (some-no (suc s) _ z q g))) in
+      omega (arith, at-zero-is s l, sum-most (suc s) 0 (takenAtZeroOn x) each)
 
-  pub view-exact : (s : ℕ) → s < 5 → paidTo d k (viewOf d k j) (suc s) ≡ true → fellAtZero d k (viewOf d k j) s ≡ false → runningSum (viewOf d k j) s ≡ pos (openRisesIn d k (viewOf d k j) s)
-  view-exact s l p z = view-difference s l p ∙ ap pos (omega (arith, none-kept s l z))
+  pub view-exact : (s : ℕ) → s < 5 → paidUpTo d k (viewOf d k j) (suc s) ≡ true → fellAtZero d k (viewOf d k j) s ≡ false → runningSum (viewOf d k j) s ≡ pos (openAtRates d k (viewOf d k j) s)
+  view-exact s l p z = view-difference s l p ∙ ap pos (omega (arith, none-at-zero s l z))

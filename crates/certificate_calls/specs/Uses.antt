@@ -85,7 +85,7 @@ pub ad-hoc-line-refused : cutAnswer (lineAt adHoc0Day 0) .number ≡ 12
 unfolding opened adHoc0Words adHoc0Day
 ad-hoc-line-refused = refl
 
--- And so is one with open rises, on both sides, and falls at a rate of 0 (document 02, F-14; `open-rises` in rules); more on it in RunningDays
+-- A day with open rises, on both sides, and falls at a rate of 0 is certified too (document 02, F-14; `open-rises` in rules)
 pub open-rises-certified : (b : List ℕ) → 264 ≤ length b → Certified openRisesDay (bookAfter openRisesDay b) (viewAnswer openRisesDay) (λ k. cutAnswer (lineAt openRisesDay k))
 unfolding openRisesWords openRisesDay
 open-rises-certified b l =

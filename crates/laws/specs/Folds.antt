@@ -194,7 +194,7 @@ pub some-same : (n : ℕ) (p q : ℕ → Bool) → ((i : ℕ) → i < n → p i 
 some-same zero p q h = some-none p ∙ sym (some-none q)
 some-same (suc n) p q h = rw (some-suc n p, some-suc n q, some-same n p q (λ i l. h i (omega arith)), h n (omega arith))
 
--- none does
+-- whether none holds
 or-left : (a b : Bool) → (a || b) ≡ false → a ≡ false
 or-left true b e = e
 or-left false b e = refl

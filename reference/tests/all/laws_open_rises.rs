@@ -1,5 +1,5 @@
-//! What 02 F-14 promises of modified payments and open rises, on generated days, on the example days and on those with
-//! figures of other hands.
+//! What 02 F-14 promises of modified payments and open rises, on generated days, on the example days and on days of
+//! another implementation.
 
 use crate::kept::days_in;
 use crate::law_days;

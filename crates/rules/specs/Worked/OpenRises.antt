@@ -1,6 +1,7 @@
 -- The seventh worked day of docs/RULES.md (examples/open-rises.day), worked out by hand there: open rises beside the running sum of modified
--- payments, on both sides. Lines 0 and 1 are paid in all five schedules, line 0 by the full set: flagged falls of pulled bids are taken back at
--- the rates of their rises, and then each line has a fall at a rate of 0. Line 2 is paid in schedule 2 alone. Line 0 has an excess in schedule 2.
+-- payments, on both sides. Lines 0 and 1 are paid in all five schedules, line 0 by the full set. Each has a fall where its bid is pulled, for
+-- which modified takes back at the rates of several rises, and then one at a rate of 0. Line 2 is paid in schedule 2 alone. Line 0 has an excess
+-- in schedule 2.
 use Prim.Native.Nat.{ℕ}
 use mathlib.Core.List.{List, [], _∷_, _++_}
 use lib.ListN.{replicate}
