@@ -33,7 +33,7 @@ use Rattle.certificate.specs.Certificate.{matchIn, paidUpTo, rateIn, runningSum
 use Rattle.certificate.specs.Answers.{view-whole}
 
 -- step j of line k of the day d, after each schedule: whether it was paid in all schedules so far, the running sum, the open rises at their
--- rates, whether a fall came at a rate of 0, and what such falls took
+-- rates, whether a fall came at a rate of 0, and what such falls took. All these days are accepted, so `viewOf` is the view's answer (`view-whole`)
 abbrev runningOf : List ℕ → ℕ → ℕ → List ℕ → List ℕ → List ℕ → List ℕ → List ℕ → Case
 runningOf d k j paid sums opens fell taken =
     record {
@@ -66,7 +66,7 @@ partDay = withWords k10Day 19 (47 ∷ [])
 abbrev smallerDay : List ℕ
 smallerDay = withWords k10Day 90 (bid (1000 ∷ []) (45000 ∷ []))
 
--- Worked by hand. K10's day, and it with these words
+-- Worked by hand: K10's day, and with these words in it, with which it is accepted too
 abbrev k10Cases : List Case
 k10Cases =
     exactOf k10Day 0 1 (0 ∷ 20000000 ∷ 20000000 ∷ 10000000 ∷ 10000000 ∷ [])
