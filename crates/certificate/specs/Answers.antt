@@ -13,6 +13,8 @@ use Rattle.rules.specs.Steps.{ends, stepCount, upperEnd, lowerEnd}
 use Rattle.rules.specs.Refusals.{dayFault, viewFault, settleFault, bookLength}
 use Rattle.rules.specs.Cutting.{cutOf, stepPlaces}
 use Rattle.rules.specs.Matching.{matchesOf, matched, tenMatches}
+use Rattle.rules.specs.Payments.{onStep}
+use Rattle.rules.specs.Days.{stepOf}
 use Rattle.rules.specs.Viewing.{viewOf, viewRefused, viewAnswer}
 use Rattle.rules.specs.declared.View.{View}
 use Rattle.laws.specs.Folds.{refuse-false, refuse-true}
@@ -80,7 +82,12 @@ cond-again : (t : Bool) (x : ℕ) → cond t (cond t x 0) 0 ≡ cond t x 0
 cond-again true x = refl
 cond-again false x = refl
 
-pub match-at : (v : View) (c : List ℕ) → v .matches ≡ tenMatches c → (s r : ℕ) → s < 5 → matchIn v s r ≡ matched c s r
+match-at : (v : View) (c : List ℕ) → v .matches ≡ tenMatches c → (s r : ℕ) → s < 5 → matchIn v s r ≡ matched c s r
 unfolding matchIn matched
 match-at v c e s r l =
     rw e (match-by c s r (ltb r s) refl l ∙ cond-again (ltb r s) (getD (matchesOf c s) (s - suc r) 0))
+
+-- m of a step of the view is the definitions'
+pub match-is : (d : List ℕ) (k j s r : ℕ) → s < 5 → matchIn (viewOf d k j) s r ≡ matched (onStep (stepOf d k j)) s r
+unfolding viewOf
+match-is d k j s r l = match-at (viewOf d k j) (onStep (stepOf d k j)) refl s r l

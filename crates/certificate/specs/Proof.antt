@@ -43,8 +43,8 @@ use Rattle.day_totals.specs.Money.{linePayments, adjusted-payments, adjusted-or
 use Rattle.certificate.specs.Within.{withinBid, dayWithin, withoutExcess}
 use Rattle.certificate.specs.Excess.{view-within, payment-within}
 use Rattle.certificate.specs.Refused.{refused-with-twelve, own-taken}
-use Rattle.certificate.specs.Answers.{view-whole, view-past, settle-taken, end-at, width-at}
-use Rattle.certificate.specs.Running.{paid-part, match-is, view-difference, view-least, view-exact}
+use Rattle.certificate.specs.Answers.{view-whole, view-past, settle-taken, end-at, width-at, match-is}
+use Rattle.certificate.specs.Running.{paid-part, view-difference, view-least, view-exact}
 
 module _ (d : List ℕ) (h : dayFault d ≡ 0) where
   -- gas and matches, of views that are the whole ones, with the steps, the operating totals and the effective actual of each line

@@ -1,7 +1,7 @@
 -- Document 02, F-14, of the view's answer: the running sum of modified payments against the open rises, from the law of a step (step_payments).
 use Prim.Native.Nat.{ℕ, suc, _+_, _*_, _-_, _≤_, _<_}
 use native.Mathlib.Omega.{arith}
-use mathlib.Core.Path.{_≡_, refl, _∙_, ap}
+use mathlib.Core.Path.{_≡_, _∙_, ap}
 use mathlib.Core.List.{List}
 use mathlib.Core.Bool.{true, false, cond}
 use lib.Dec.{eqb}
@@ -22,7 +22,7 @@ use Rattle.step_matching.specs.Balance.{matchedWith}
 use Rattle.step_matching.specs.OpenValue.{openBefore, openAt, openValue}
 use Rattle.step_payments.specs.Running.{takenAtZeroOn, at-zero-none, running-sum}
 use Rattle.certificate.specs.Certificate.{matchIn, paidUpTo, rateIn, runningSum, openIn, openAtRates, fellAtZero, takenAtZero}
-use Rattle.certificate.specs.Answers.{match-at}
+use Rattle.certificate.specs.Answers.{match-is}
 
 -- paid in the first n schedules, so in the first m of them
 pub paid-part : (d : List ℕ) (k : ℕ) (v : View) (n m : ℕ) → m ≤ n → paidUpTo d k v n ≡ true → paidUpTo d k v m ≡ true
@@ -34,10 +34,6 @@ module _ (d : List ℕ) (k j : ℕ) where
   rate-is : (s : ℕ) → s < 5 → rateIn d k (viewOf d k j) s ≡ rate (stepOf d k j) s
   unfolding rateIn rate viewOf stepOf
   rate-is s l = rw (at-five (marketPrice d) 0 s l)
-
-  pub match-is : (s r : ℕ) → s < 5 → matchIn (viewOf d k j) s r ≡ matched (onStep (stepOf d k j)) s r
-  unfolding viewOf
-  match-is s r l = match-at (viewOf d k j) (onStep (stepOf d k j)) refl s r l
 
   paid-is : (s : ℕ) → s < 5 → paid (lineAt d k) (viewOf d k j .end) s ≡ true → isPaid (stepOf d k j) s ≡ true
   unfolding isPaid viewOf stepOf
@@ -54,7 +50,7 @@ module _ (d : List ℕ) (k j : ℕ) where
   left-is s r l =
       let c = onStep (stepOf d k j) in
       ap (λ (taken : ℕ). rise c r - taken)
-      (sum-same (suc s) (λ q. matchIn (viewOf d k j) q r) (λ q. matched c q r) (λ q g. match-is q r (omega arith)))
+      (sum-same (suc s) (λ q. matchIn (viewOf d k j) q r) (λ q. matched c q r) (λ q g. match-is d k j q r (omega arith)))
 
   open-is : (s : ℕ) → s < 5 → openAtRates d k (viewOf d k j) s ≡ openValue (onStep (stepOf d k j)) (rate (stepOf d k j)) (suc s)
   unfolding openAtRates openValue openAt
@@ -68,7 +64,7 @@ module _ (d : List ℕ) (k j : ℕ) where
   taken-is s l =
       let x = stepOf d k j in
       sum-same s (λ r. matchIn (viewOf d k j) s r * rateIn d k (viewOf d k j) r) (λ r. matched (onStep x) s r * rate x r)
-      (λ r g. rw (match-is s r l, rate-is r (omega arith)))
+      (λ r g. rw (match-is d k j s r l, rate-is r (omega arith)))
 
   at-zero-is : (s : ℕ) → s < 5 → takenAtZero d k (viewOf d k j) s ≡ sumTo (suc s) (takenAtZeroOn (stepOf d k j))
   unfolding takenAtZero takenAtZeroOn

@@ -5,7 +5,7 @@ use native.Mathlib.Omega.{arith}
 use mathlib.Core.Path.{_≡_, refl, sym, _∙_}
 use mathlib.Core.List.{List, [], _∷_, _++_}
 use mathlib.Core.Bool.{Bool, true, false, false≢true}
-use lib.ListN.{length, take, drop}
+use lib.ListN.{length, take, drop, replicate}
 use lib.IntN.{pos}
 use lib.Signed.{ltZ, leZ}
 use Rattle.rules.specs.Fold.{sumTo, eqbZ, five}
@@ -45,10 +45,10 @@ runningOf d k j paid sums opens fell taken =
     }
 
 abbrev zeros : List ℕ
-zeros = 0 ∷ 0 ∷ 0 ∷ 0 ∷ 0 ∷ []
+zeros = replicate 5 0
 
 abbrev ones : List ℕ
-ones = 1 ∷ 1 ∷ 1 ∷ 1 ∷ 1 ∷ []
+ones = replicate 5 1
 
 -- a step paid in all five schedules with no fall at a rate of 0: the running sum is the open rises
 abbrev exactOf : List ℕ → ℕ → ℕ → List ℕ → Case

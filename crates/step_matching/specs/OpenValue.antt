@@ -23,7 +23,7 @@ open-found c n r h = omega (arith, rise-kept c n r h)
 unfoldable pub openAt : List ℕ → (ℕ → ℕ) → ℕ → ℕ → ℕ
 openAt c f n r = openBefore c n r * f r
 
-unfoldable pub takenAt : List ℕ → (ℕ → ℕ) → ℕ → ℕ → ℕ
+abbrev pub takenAt : List ℕ → (ℕ → ℕ) → ℕ → ℕ → ℕ
 takenAt c f s r = matched c s r * f r
 
 unfoldable pub openValue : List ℕ → (ℕ → ℕ) → ℕ → ℕ
@@ -34,7 +34,7 @@ takenValue c f s = sumTo s (takenAt c f s)
 
 -- of one earlier rise: what schedule n leaves and what it takes
 left-taken : (c : List ℕ) (f : ℕ → ℕ) (n r : ℕ) → openAt c f (suc n) r + takenAt c f n r ≡ openAt c f n r
-unfolding openAt takenAt openBefore matchedWith
+unfolding openAt openBefore matchedWith
 left-taken c f n r =
     let b = rises-bound c (suc n) r in
     let e = sum-suc n (matchedWith c r) in
@@ -61,7 +61,6 @@ open-next c f n =
 
 -- where nothing falls, nothing is taken
 none-taken : (c : List ℕ) (f : ℕ → ℕ) (s r : ℕ) → fall c s ≡ 0 → r < s → takenAt c f s r ≤ 0
-unfolding takenAt
 none-taken c f s r e l =
     let z : matched c s r ≡ 0 = omega (arith, sum-term s (matched c s) r l, falls-matched c s) in
     rw z (omega (arith, zero-mul (f r)))

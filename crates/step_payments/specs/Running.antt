@@ -14,7 +14,7 @@ use Rattle.rules.specs.Payments.{onStep, rate, isPaid, givenBack, initial, modi
 use Rattle.rules.specs.declared.Step.{Step}
 use Rattle.laws.specs.Folds.{sum-none, sum-suc, sumZ-none, sumZ-suc}
 use Rattle.laws.specs.Ints.{pl, mi, eqZ, add-read}
-use Rattle.step_matching.specs.OpenValue.{openValue, takenAt, takenValue, open-none, open-next, taken-none}
+use Rattle.step_matching.specs.OpenValue.{openValue, takenValue, open-none, open-next, taken-none}
 use Rattle.step_payments.specs.Parts.{changeOn, initial-plus, initial-minus, modified-plus, modified-minus}
 
 -- what a fall of s at a rate of 0 took of earlier rises, at their rates: 0 at any other rate
@@ -33,7 +33,7 @@ at-zero-by zero (suc n) g h = rw (zero-mul (suc n), eqb·suc-zero n) (omega (ari
 at-zero-by (suc d) (suc n) g h = rw (ne-eqb (suc d * suc n) 0 (λ e. omega arith), eqb·suc-zero n) (omega arith)
 
 given-none : (x : Step) (s : ℕ) → fall (onStep x) s ≡ 0 → givenBack x s (rate x) ≡ 0
-unfolding givenBack takenValue takenAt
+unfolding givenBack takenValue
 given-none x s e = taken-none (onStep x) (rate x) s e
 
 modified-fall : (x : Step) (s : ℕ) → isPaid x s ≡ true → mi (modified x s) + takenAtZeroOn x s ≡ givenBack x s (rate x)
@@ -48,7 +48,7 @@ sum-next a b k g u z p m o t = eqZ (pos (a + t) +ℤ z) (pos (b + (t + k))) (ome
 
 -- THE EXACT DIFFERENCE, for any number of schedules
 pub running-sum : (x : Step) (n : ℕ) → ((s : ℕ) → s < n → isPaid x s ≡ true) → sumZ n (modified x) ≡ pos (openValue (onStep x) (rate x) n + sumTo n (takenAtZeroOn x))
-unfolding givenBack takenValue takenAt
+unfolding givenBack takenValue
 running-sum x zero h = rw (sumZ-none (modified x), sum-none (takenAtZeroOn x)) (ap pos (omega (arith, open-none (onStep x) (rate x))))
 running-sum x (suc n) h =
     let c = onStep x in

@@ -11,6 +11,7 @@ use Rattle.rules.specs.declared.Step.{Step}
 use Rattle.laws.specs.Folds.{sum-none, sum-suc}
 use Rattle.step_quantities.specs.Bounds.{onStep-upper}
 use Rattle.step_matching.specs.Balance.{falls-matched}
+use Rattle.step_matching.specs.OpenValue.{takenAt}
 
 -- a step within the limits of quantities and prices
 pub record Sized (x : Step) : Type 0 where
@@ -54,11 +55,11 @@ pub fall-most : (x : Step) (s : ℕ) → fall (onStep x) s ≤ x .upper
 unfolding fall
 fall-most x s = omega (arith, fall-by x s)
 
--- what n matches give back at rates of at most b
 -- m(r, s) times a rate of r
 abbrev pub matchedAt : Step → ℕ → (ℕ → ℕ) → ℕ → ℕ
-matchedAt x s f r = matched (onStep x) s r * f r
+matchedAt x s f r = takenAt (onStep x) f s r
 
+-- what n matches give back at rates of at most b
 part-most : (x : Step) (s n b : ℕ) (f : ℕ → ℕ) → ((r : ℕ) → f r ≤ b) → sumTo n (matchedAt x s f) ≤ sumTo n (matched (onStep x) s) * b
 part-most x s zero b f h = rw (sum-none (matchedAt x s f)) (omega arith)
 part-most x s (suc n) b f h =
