@@ -9,6 +9,7 @@ typedef struct mewikofu_cut Cut;
 uint32_t real_mewikofu_settle(const uint8_t *, size_t, uint8_t *, size_t);
 uint32_t real_mewikofu_uplift(const uint8_t *, size_t, int64_t *);
 View real_mewikofu_view(const uint8_t *, size_t, size_t, size_t);
+uint32_t real_mewikofu_line_views(const uint8_t *, size_t, size_t, View *, size_t *);
 uint32_t real_mewikofu_line_part(const uint8_t *, size_t, size_t, size_t *, size_t *);
 Cut real_mewikofu_cut(const uint8_t *, size_t);
 
@@ -436,6 +437,73 @@ View mewikofu_view(const uint8_t *day, size_t length, size_t line, size_t step)
         view.actual = other.number == MEWIKOFU_ACCEPTED ? other.actual : view.actual; /* by the line's own row 5 */
     }
     return view;
+}
+
+/* What the places for a line's views held before the call. */
+static _Thread_local View unwritten[MEWIKOFU_MOST_STEPS];
+
+/* Faults in the places of refused line views. */
+static inline void change_refused(uint32_t number, View *views, size_t *count, size_t count_before)
+{
+    if (FAULT == 55)
+        views[0].end = 0; /* a place is written */
+    if (FAULT == 56 && number == MEWIKOFU_NO_LINE)
+        views[55].excess.actual++; /* the last place is written where there is no such line */
+    if (FAULT == 57)
+        *count = count_before; /* the count is left as it was */
+    if (FAULT == 58 && number == MEWIKOFU_EQUAL_KEYS)
+        *count = 1; /* 14 has a count */
+}
+
+/* Faults in the views of a line. */
+static inline void change_views(View *views, size_t *count)
+{
+    size_t steps = *count, last = steps - 1;
+    View first = views[0];
+    if (FAULT == 59)
+        (*count)++; /* the count is one more */
+    if (FAULT == 60)
+        (*count)--; /* the count is one less */
+    if (FAULT == 61 && steps < MEWIKOFU_MOST_STEPS)
+        views[steps].number = 0; /* the place behind the last view is written */
+    if (FAULT == 62) { /* the first view and the last one stand in each other's place */
+        views[0] = views[last];
+        views[last] = first;
+    }
+    if (FAULT == 63)
+        views[last] = unwritten[last]; /* the last place is left as it was */
+    if (FAULT == 64 && steps == MEWIKOFU_MOST_STEPS)
+        views[55].finals[4] = unwritten[55].finals[4]; /* a payment of the 56th place is left as it was */
+    for (size_t j = 0; j < steps; j++) {
+        if (FAULT == 65)
+            views[j].number = unwritten[j].number; /* numbers aren't written */
+        if (FAULT == 66 && j < last)
+            memset(&views[j].excess, 0, sizeof views[j].excess); /* the last step alone has the excess */
+        if (FAULT == 67)
+            memcpy(views[j].finals, views[j].revised, sizeof views[j].finals); /* revised payments are final */
+        if (FAULT == 68)
+            memcpy(views[j].matches, first.matches, sizeof first.matches); /* every step has the first one's matches */
+    }
+}
+
+uint32_t mewikofu_line_views(const uint8_t *day, size_t length, size_t line, View views[MEWIKOFU_MOST_STEPS], size_t *count)
+{
+    size_t count_before = *count;
+    memcpy(unwritten, views, sizeof unwritten);
+    if (FAULT == 69)
+        line = (uint32_t)line; /* a line above 2^32 is taken for a lower one */
+    if (FAULT == 70)
+        day = with_lines(day, length, set_as_1); /* a set of schedules is taken for all of them */
+    if (FAULT == 71 && number_of(day, length) == MEWIKOFU_BOOK_SHORT)
+        day = with_records(day, length, order_with_sign); /* order numbers are compared with a sign */
+    uint32_t number = real_mewikofu_line_views(day, length, line, views, count);
+    if (number == MEWIKOFU_ACCEPTED)
+        change_views(views, count);
+    else
+        change_refused(number, views, count, count_before);
+    if (FAULT == 72 && number == MEWIKOFU_NO_LINE)
+        return MEWIKOFU_NO_STEP; /* 16 is answered as 17 */
+    return number;
 }
 
 uint32_t mewikofu_line_part(const uint8_t *day, size_t length, size_t k, size_t *at, size_t *part_length)

@@ -1,20 +1,21 @@
 /* Mewikofu for C (C99 or later), C++ (C++98 or later) and other languages.
 
-   Link libmewikofu (settling, uplift, the step view, the line part) and for the cutter libmewikofu_cut, or the shared object, which has both: tools/install
+   Link libmewikofu (settling, uplift, step view, line views, line part) and for the cutter libmewikofu_cut, or the shared object, which has both: tools/install
    installs them. In the repository they are target/staticlib/libengine_c.a, which `rt staticlib engine_c` writes, and libcutter_c.a, which
    `rt staticlib cutter_c` writes and which has nothing of the engine.
 
    Bytes. A function takes any bytes: no input is left out of its contract, which stands in crates/engine_c/src and crates/cutter_c/src.
 
    Pointers. They are the caller's part: the contracts speak of lent bytes, not of addresses. Each pointer lends as many bytes or values as are declared here,
-   aligned for its type; the bytes at `day` and `line` are read, the bytes at `book` and the places `shares`, `at` and `part_length` are written. A written
-   place may not overlap another written place nor the bytes that are read: with overlapping places the answer is not defined. NULL is a valid pointer only
-   where the length beside it is 0. No other thread may write to what is lent while a call runs. Nothing is kept after it. The step view and the cutter answer
-   one struct by value: its place is the caller's own, as for every function that answers a struct, and nothing is lent for it.
+   aligned for its type; the bytes at `day` and `line` are read, the bytes at `book` and the places `shares`, `views`, `count`, `at` and `part_length` are
+   written. A written place may not overlap another written place nor the bytes that are read: with overlapping places the answer is not defined. NULL is a
+   valid pointer only where the length beside it is 0. No other thread may write to what is lent while a call runs. Nothing is kept after it. The step view and
+   the cutter answer one struct by value: its place is the caller's own, as for every function that answers a struct, and nothing is lent for it.
 
    Threads and signals. The functions have no writable data, take no memory from the heap and call nothing but memcpy and memset. So any number of threads may
    call them at once without a lock, each with places of its own to be written; the bytes that are read may be shared. They may be called from a signal handler.
-   A call takes less than 20 KB of stack: settling 64 lines and 64 ad hoc records takes 16,040 bytes. tools/archive-check holds the archives to this. */
+   A call takes less than MEWIKOFU_STACK_BYTES of stack, mewikofu_line_views less than MEWIKOFU_LINE_VIEWS_STACK_BYTES; what the caller lends isn't in it.
+   tools/archive-check holds the archives to all this. */
 #ifndef MEWIKOFU_H
 #define MEWIKOFU_H
 
@@ -99,6 +100,10 @@ static inline const char *mewikofu_words(uint32_t number)
 #define MEWIKOFU_SCHEDULES 5
 #define MEWIKOFU_MOST_STEPS 56
 #define MEWIKOFU_MATCHES 10
+
+/* The stack that a call takes is less than this, in bytes: one of mewikofu_line_views, and one of any other function. */
+#define MEWIKOFU_LINE_VIEWS_STACK_BYTES 40000
+#define MEWIKOFU_STACK_BYTES 32000
 
 /* The most MJ by which a pricing or operating total may be above M. */
 #define MEWIKOFU_MOST_EXCESS 1000
@@ -189,9 +194,9 @@ struct mewikofu_excess {
     uint32_t actual;
 };
 
-/* What the step view answers: every figure of a step. Arrays are by schedule, but `matches`. Payments are in $0.0000001, prices in $0.0001 per GJ, quantities
-   in MJ. The excess is the line's, so the same for each of its steps; with it `operating`, `pricing` and `actual` of all its steps add up to the line's totals
-   and its effective actual. 400 bytes without padding. */
+/* What the step view answers, and the line views for each step: every figure of a step. Arrays are by schedule, but `matches`. Payments are in $0.0000001,
+   prices in $0.0001 per GJ, quantities in MJ. The excess is the line's, so the same for each of its steps; with it `operating`, `pricing` and `actual` of all
+   its steps add up to the line's totals and its effective actual. 400 bytes without padding. */
 struct mewikofu_view {
     int64_t initial[MEWIKOFU_SCHEDULES];      /* initial payment */
     int64_t revised[MEWIKOFU_SCHEDULES];      /* revised payment */
@@ -214,6 +219,12 @@ struct mewikofu_view {
 
 /* The step view: step `step` of line `line` (both from 0). Header, market, ad hoc records, each line, all lines and view are checked, in this order. */
 struct mewikofu_view mewikofu_view(const uint8_t *day, size_t length, size_t line, size_t step);
+
+/* The line views: all steps of line `line` (from 0) by one call, which works the day out once. Answers the number; header, market, ad hoc records, each line,
+   all lines and that the line is there (MEWIKOFU_NO_LINE) are checked, in this order. With 0 `count` is the line's step count, 1 to MEWIKOFU_MOST_STEPS, and
+   views[j] of each step j below it is what mewikofu_view answers for that step. All MEWIKOFU_MOST_STEPS places must be lent whatever the line's step count:
+   they are read and written, and those past `count` keep their bytes. With any other number `count` is 0 and every place of `views` is as it was. */
+uint32_t mewikofu_line_views(const uint8_t *day, size_t length, size_t line, struct mewikofu_view views[MEWIKOFU_MOST_STEPS], size_t *count);
 
 /* The bytes of line k (from 0) within the day's own, with the line's own operating rows: they are the `part_length` bytes from byte `at` of the day on, in
    either layout. Answers the number; header and line part are checked, in this order. Where it isn't 0 both places are 0 and the part is empty. */

@@ -1,29 +1,12 @@
-//! The proved cutter, settling and step view, through the Rust binding, as a C program calls them: answers by value, without a copy.
+//! The functions of the archives through the Rust binding, as a C program calls them; and the reference's answers in their form.
 
-use mewikofu::raw;
+use mewikofu::raw::Cut;
+pub use mewikofu::raw::{cut, line_part, line_views, settle, uplift, view, View};
 use reference::{cut, view};
 
-/// Views a step.
-#[inline(never)]
-pub fn view(day: &[u8], line: u64, step: u64) -> raw::View {
-    raw::view(day, line as usize, step as usize)
-}
-
-/// Settles a day into a book.
-#[inline(never)]
-pub fn settle(day: &[u8], book: &mut [u8]) -> u32 {
-    raw::settle(day, book)
-}
-
-/// Cuts a line.
-#[inline(never)]
-pub fn cut(line: &[u8]) -> raw::Cut {
-    raw::cut(line)
-}
-
-/// The answer that is the reference's, to be compared.
-pub fn expected_view(answer: view::View) -> raw::View {
-    raw::View {
+/// The view that is the reference's.
+pub fn expected_view(answer: view::View) -> View {
+    View {
         initial: answer.initial,
         revised: answer.revised,
         modified: answer.modified,
@@ -48,9 +31,9 @@ pub fn expected_view(answer: view::View) -> raw::View {
     }
 }
 
-/// Likewise.
-pub fn expected_cut(answer: cut::Cut) -> raw::Cut {
-    raw::Cut {
+/// The cut that is the reference's.
+pub fn expected_cut(answer: cut::Cut) -> Cut {
+    Cut {
         flags: answer.flags,
         number: answer.number,
         count: answer.count,

@@ -1,5 +1,6 @@
 /* Whether libraries answer as mewikofu.h says: a refused view, a refused uplift (both with ENGINE) and a refused cut (with CUTTER) have the number, and 0 in
-   every other byte. Ends with 1 otherwise; functions with another interface may end it by a signal. */
+   every other byte; refused line views (with ENGINE) have the number and the count 0, and leave every place as it was. Ends with 1 otherwise; functions with
+   another interface may end it by a signal. */
 #include "mewikofu.h"
 
 #include <string.h>
@@ -38,6 +39,15 @@ static int uplift_is_refused(void)
             return 0;
     return 1;
 }
+
+static int line_views_are_refused(void)
+{
+    static struct mewikofu_view views[MEWIKOFU_MOST_STEPS], before[MEWIKOFU_MOST_STEPS];
+    size_t count = SIZE_MAX;
+    memset(views, 0xA5, sizeof views);
+    memcpy(before, views, sizeof before);
+    return mewikofu_line_views(NULL, 0, 0, views, &count) == MEWIKOFU_FILE_SHORT && count == 0 && memcmp(views, before, sizeof views) == 0;
+}
 #endif
 
 #ifdef CUTTER
@@ -52,7 +62,7 @@ int main(void)
 {
 #ifdef ENGINE
     fill_stack();
-    if (!view_is_refused() || !uplift_is_refused())
+    if (!view_is_refused() || !uplift_is_refused() || !line_views_are_refused())
         return 1;
 #endif
 #ifdef CUTTER

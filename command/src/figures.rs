@@ -155,9 +155,6 @@ fn line(
     let part = mewikofu::line_part(day, k)?;
     let ad_hoc = ad_hoc::in_force(records, part, k);
     let bytes = ad_hoc::with_rows(part, &ad_hoc);
-    let steps: std::result::Result<_, Refusal> = (0..entry.steps as usize)
-        .map(|j| mewikofu::view(day, k, j))
-        .collect();
     let accreditation = Accreditation::of_word(word(part, ACCREDITATION));
     Ok(Line {
         // An accepted line has a proper word.
@@ -167,6 +164,6 @@ fn line(
         ad_hoc,
         bytes,
         entry,
-        steps: steps?,
+        steps: mewikofu::line_views(day, k)?,
     })
 }

@@ -7,7 +7,7 @@ use crate::input::read_day;
 use crate::layout::SCHEDULES;
 use crate::outcome::{each, Result, Status};
 use crate::output::{numbered, put_json, Format, Table, Unit};
-use crate::settle::{put, side_word};
+use crate::settle::side_word;
 use mewikofu::{match_place, BookLine, Excess, View, MATCHES};
 use serde_json::{json, Value};
 use std::io::Write;
@@ -49,7 +49,7 @@ pub fn run(options: &Options, out: &mut dyn Write) -> Result<Status> {
 
 /// What the program `steps` prints.
 pub fn text(figures: &Figures) -> String {
-    let mut text = String::new();
+    let mut text = Vec::new();
     for (k, line) in figures.lines.iter().enumerate() {
         let BookLine {
             participant,
@@ -58,39 +58,70 @@ pub fn text(figures: &Figures) -> String {
             steps,
             ..
         } = line.entry;
-        text.push_str(&format!(
-            "line {k} {participant} {point} {} {steps}\n",
-            side_word(side)
-        ));
+        let side = side_word(side);
+        text.extend(format!("line {k} {participant} {point} {side} {steps}\n").bytes());
         for (j, step) in line.steps.iter().enumerate() {
-            put(
-                &mut text,
-                &format!("step {j}"),
-                &[step.end, step.width, step.actual],
-            );
-            for s in 0..SCHEDULES {
-                let row = [
-                    quantities(step, s).map(i64::from).to_vec(),
-                    payments(step, s).to_vec(),
-                ]
-                .concat();
-                put(&mut text, &(s + 1).to_string(), &row);
-            }
-            put(&mut text, "matches", &step.matches);
+            put_step(&mut text, j, step);
         }
         put_excess(&mut text, line.excess());
     }
-    text
+    String::from_utf8(text).expect("words and digits")
+}
+
+fn put_step(text: &mut Vec<u8>, j: usize, step: &View) {
+    text.extend_from_slice(b"step");
+    put_words(text, &[j as u32, step.end, step.width, step.actual]);
+    for s in 0..SCHEDULES {
+        text.extend_from_slice(&[b'\n', b'1' + s as u8]);
+        put_words(text, &quantities(step, s));
+        for money in payments(step, s) {
+            put_number(text, money);
+        }
+    }
+    text.extend_from_slice(b"\nmatches");
+    put_words(text, &step.matches);
+    text.push(b'\n');
+}
+
+fn put_words(text: &mut Vec<u8>, words: &[u32]) {
+    for &word in words {
+        put_number(text, word.into());
+    }
+}
+
+/// A space and the number, with its sign below 0. The formatter would take the most time of a day's text.
+fn put_number(text: &mut Vec<u8>, number: i64) {
+    if let digit @ 0..=9 = number {
+        return text.extend_from_slice(&[b' ', b'0' + digit as u8]);
+    }
+    let mut bytes = [b' '; 24];
+    let (mut first, mut rest) = (bytes.len(), number.unsigned_abs());
+    while rest > 0 {
+        // Two digits, the first of which may be a 0 too many.
+        first -= 2;
+        let pair = (rest % 100) as u8;
+        bytes[first] = b'0' + pair / 10;
+        bytes[first + 1] = b'0' + pair % 10;
+        rest /= 100;
+    }
+    first += usize::from(bytes[first] == b'0');
+    if number < 0 {
+        first -= 1;
+        bytes[first] = b'-';
+    }
+    bytes[first - 1] = b' ';
+    text.extend_from_slice(&bytes[first - 1..]);
 }
 
 /// The last row of a line.
-fn put_excess(text: &mut String, excess: Excess) {
-    let row = |values: [u32; SCHEDULES]| values.map(|value| value.to_string()).join(" ");
-    let [pricing, operating] = [excess.pricing, excess.operating].map(row);
-    let actual = excess.actual;
-    text.push_str(&format!(
-        "excess pricing {pricing} operating {operating} actual {actual}\n"
-    ));
+fn put_excess(text: &mut Vec<u8>, excess: Excess) {
+    text.extend_from_slice(b"excess pricing");
+    put_words(text, &excess.pricing);
+    text.extend_from_slice(b" operating");
+    put_words(text, &excess.operating);
+    text.extend_from_slice(b" actual");
+    put_words(text, &[excess.actual]);
+    text.push(b'\n');
 }
 
 /// Price, flag, O, E, AGINO, MSIQ and C.

@@ -1,5 +1,6 @@
-/* Settles the day file named on the command line and prints its lines, with their excess where it isn't 0, totals and uplift.
-   Ends with 0 where the day is settled, 1 where it is refused, 2 where the file can't be read or the output can't be written. */
+/* Settles the day file named on the command line and prints its lines, with their excess where it isn't 0, totals and uplift; with the number of a line, from 0,
+   the line's steps instead, each with its payments. Ends with 0 where the day is settled, 1 where it is refused or has no such line, 2 where the file can't be
+   read or the output can't be written. */
 #include "mewikofu.h"
 
 #include <inttypes.h>
@@ -103,6 +104,31 @@ static void print_book(struct day day)
     print_uplift(day);
 }
 
+static uint32_t settle(struct day day)
+{
+    uint32_t number = mewikofu_settle(day.bytes, day.length, book, sizeof book);
+    if (number == MEWIKOFU_ACCEPTED)
+        print_book(day);
+    return number;
+}
+
+/* Answers the number. */
+static uint32_t print_steps(struct day day, size_t line)
+{
+    static struct mewikofu_view views[MEWIKOFU_MOST_STEPS];
+    size_t count;
+    uint32_t number = mewikofu_line_views(day.bytes, day.length, line, views, &count);
+    if (number == MEWIKOFU_ACCEPTED)
+        printf("line %zu, steps: %zu; final payments in dollars in schedules 1 to 5\n", line, count);
+    for (size_t j = 0; j < count; j++) {
+        printf("step %zu, %" PRIu32 " MJ wide, to %" PRIu32 " MJ\npayments", j, views[j].width, views[j].end);
+        for (int s = 0; s < MEWIKOFU_SCHEDULES; s++)
+            print_money(views[j].finals[s]);
+        printf("\n");
+    }
+    return number;
+}
+
 /* Reads all bytes of an open file. Answers whether they could be read. */
 static int read_all(FILE *file, struct day *day)
 {
@@ -128,11 +154,20 @@ static int read_day(const char *name, struct day *day)
     return fclose(file) == 0 && read;
 }
 
+/* The number of a line. Answers whether it is one. */
+static int read_line(const char *text, size_t *line)
+{
+    char *end;
+    *line = strtoul(text, &end, 10);
+    return *text >= '0' && *text <= '9' && *end == '\0';
+}
+
 int main(int count, char **arguments)
 {
     struct day day = {NULL, 0};
-    if (count != 2) {
-        fprintf(stderr, "usage: settle DAY\n");
+    size_t line = 0;
+    if (count < 2 || count > 3 || (count == 3 && !read_line(arguments[2], &line))) {
+        fprintf(stderr, "usage: settle DAY [LINE]\n");
         return 2;
     }
     if (!read_day(arguments[1], &day)) {
@@ -140,10 +175,8 @@ int main(int count, char **arguments)
         free(day.bytes);
         return 2;
     }
-    uint32_t number = mewikofu_settle(day.bytes, day.length, book, sizeof book);
-    if (number == MEWIKOFU_ACCEPTED)
-        print_book(day);
-    else
+    uint32_t number = count == 3 ? print_steps(day, line) : settle(day);
+    if (number != MEWIKOFU_ACCEPTED)
         printf("refused %" PRIu32 ": %s\n", number, mewikofu_words(number));
     free(day.bytes);
     /* A full disk shows when the last bytes are written. */

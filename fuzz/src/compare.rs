@@ -3,7 +3,7 @@
 use crate::interface;
 use crate::met::{pulled, Accepted, MET};
 use mewikofu::raw::{self, Cut, View};
-use mewikofu::Excess;
+use mewikofu::{Excess, MOST_STEPS};
 use reference::layout::{
     book_adjusted, book_length, book_totals, Day, Line, LINE_BYTES, MOST_LINES, SCHEDULES,
 };
@@ -15,7 +15,8 @@ use std::ops::Range;
 const GUARD: usize = 64;
 pub const MOST_ROOM: usize = book_length(MOST_LINES) + 64;
 
-/// What is asked of a day: the length of the lent book, the bytes to cut, a line and a step to view, a line to lend.
+/// What is asked of a day: the length of the lent book, the bytes to cut, a line and a step to view (the line also with all its steps), a line to
+/// lend.
 #[derive(Clone, Debug)]
 pub struct Call {
     pub room: usize,
@@ -31,6 +32,7 @@ pub struct Numbers {
     pub uplift: u32,
     pub cut: u32,
     pub view: u32,
+    pub line_views: u32,
     pub part: u32,
     pub met: [bool; MET.len()],
 }
@@ -40,6 +42,14 @@ pub struct Compare {
     day: Vec<u8>,
     book: Vec<u8>,
     expected: Vec<u8>,
+    places: Places,
+}
+
+/// The places for a line's views, between two others. Each holds something else before, as `before` has it; `written` of those lent hold a view.
+struct Places {
+    before: Vec<View>,
+    views: Vec<View>,
+    written: usize,
 }
 
 type Answer = Result<u32, String>;
@@ -52,6 +62,7 @@ impl Compare {
             day: Vec::new(),
             book: Vec::new(),
             expected: Vec::new(),
+            places: Places::new(),
         }
     }
 
@@ -59,6 +70,7 @@ impl Compare {
         self.day.clear();
         self.day.extend(day);
         let view = self.view(day, call.line, call.step)?;
+        let line_views = self.places.line_views(&self.day, day, call.line)?;
         let cut = self.cut(day, call.cut.clone())?;
         let settle = self.settle(day, call.room)?;
         let uplift = self.uplift(day)?;
@@ -72,6 +84,7 @@ impl Compare {
             totals: (settle == 0)
                 .then(|| (book_totals(&self.expected), book_adjusted(&self.expected))),
             viewed: viewed.map(|line| (day, call.line, line, &view)),
+            line_views: self.places.written(),
             cut: cut_line,
             lent: (part == 0).then_some(day),
             refused_own_row: view.number == 0 && cut.number == 12 && is_line(day, call),
@@ -81,6 +94,7 @@ impl Compare {
             uplift,
             cut: cut.number,
             view: view.number,
+            line_views,
             part,
             met: accepted.met(),
         };
@@ -158,6 +172,71 @@ impl Compare {
         same("line part's place", &(at, length), &expected_place)?;
         same("line part", &&self.day[at..at + length], &expected)?;
         Ok(number)
+    }
+}
+
+impl Places {
+    fn new() -> Places {
+        let before: Vec<View> = (0..MOST_STEPS + 2).map(unwritten).collect();
+        Places {
+            views: before.clone(),
+            before,
+            written: 0,
+        }
+    }
+
+    /// A line's views, one for each step.
+    fn written(&self) -> &[View] {
+        &self.views[1..=self.written]
+    }
+
+    /// The number. `lent` has the day's bytes too.
+    fn line_views(&mut self, lent: &[u8], day: &[u8], line: usize) -> Answer {
+        let again = 1..=self.written;
+        self.views[again.clone()].clone_from_slice(&self.before[again]);
+        let mut count = usize::MAX / 7;
+        let places = self.views[1..].first_chunk_mut().unwrap();
+        let number = raw::line_views(lent, line, places, &mut count);
+        let expected = reference::view::line_views(day, line as u64);
+        same("line views' number", &number, &expected.number)?;
+        same("line views' count", &count, &expected.views.len())?;
+        self.written = count;
+        for (view, expected) in self.written().iter().zip(expected.views) {
+            same("a line's view", view, &view_of(expected))?;
+        }
+        for place in (0..1).chain(1 + count..MOST_STEPS + 2) {
+            let (found, before) = (&self.views[place], &self.before[place]);
+            same("a place beyond a line's views", found, before)?;
+        }
+        Ok(number)
+    }
+}
+
+/// What a place holds before: in no field what a view has there.
+fn unwritten(place: usize) -> View {
+    let (money, word) = (i64::MIN + place as i64, u32::MAX - place as u32);
+    View {
+        initial: [money; SCHEDULES],
+        revised: [money; SCHEDULES],
+        modified: [money; SCHEDULES],
+        finals: [money; SCHEDULES],
+        number: word,
+        end: word,
+        width: word,
+        actual: word,
+        price: [word; SCHEDULES],
+        flag: [word; SCHEDULES],
+        operating: [word; SCHEDULES],
+        pricing: [word; SCHEDULES],
+        agino: [word; SCHEDULES],
+        msiq: [word; SCHEDULES],
+        constrained: [word; SCHEDULES],
+        matches: [word; 10],
+        excess: Excess {
+            operating: [word; SCHEDULES],
+            pricing: [word; SCHEDULES],
+            actual: word,
+        },
     }
 }
 

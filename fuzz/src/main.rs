@@ -60,6 +60,7 @@ struct Counts {
     uplift: Answers,
     cut: Answers,
     view: Answers,
+    line_views: Answers,
     part: Answers,
     met: [u64; MET.len()],
 }
@@ -106,6 +107,7 @@ impl Counts {
         self.uplift[numbers.uplift as usize] += 1;
         self.cut[numbers.cut as usize] += 1;
         self.view[numbers.view as usize] += 1;
+        self.line_views[numbers.line_views as usize] += 1;
         self.part[numbers.part as usize] += 1;
         for (count, met) in self.met.iter_mut().zip(numbers.met) {
             *count += u64::from(met);
@@ -114,16 +116,19 @@ impl Counts {
 
     /// The counts, and whether each call answered all numbers of its places and no other, and all of `MET` was met.
     fn print(&self) -> bool {
+        // No step is asked for, so none is missing.
+        let mut line_views = numbers(VIEW);
+        line_views.retain(|&number| number != Refusal::NoStep.number() as usize);
         let all = [
-            ("settle", &self.settle, SETTLE),
-            ("uplift", &self.uplift, UPLIFT),
-            ("view", &self.view, VIEW),
-            ("cut", &self.cut, CUT),
-            ("line part", &self.part, PART),
+            ("settle", &self.settle, numbers(SETTLE)),
+            ("uplift", &self.uplift, numbers(UPLIFT)),
+            ("view", &self.view, numbers(VIEW)),
+            ("line views", &self.line_views, line_views),
+            ("cut", &self.cut, numbers(CUT)),
+            ("line part", &self.part, numbers(PART)),
         ];
         let mut reached = true;
-        for (name, counts, places) in all {
-            let numbers = numbers(places);
+        for (name, counts, numbers) in all {
             let text: Vec<String> = (0..counts.len())
                 .filter(|k| counts[*k] > 0 || numbers.contains(k))
                 .map(|k| format!("{k}: {}", counts[k]))

@@ -11,9 +11,10 @@ use reference::quantities::{effective_actual, operating_totals, pricing_totals};
 /// Some final payment of a viewed step is a revised one less a share of T; is negative though its line isn't accredited
 /// in the schedules of the matched rises; is negative where the bid is pulled; isn't 0 on the line's last step where
 /// the operating total exceeds M; isn't 0 where the row in force is a record's. A record isn't in force by its place in
-/// the file or by the sign of its order number. The own row of an accepted day's line has refusal 12. Of uplift, by the
-/// book of the settled day: groups of several schedules of which a part is taken off.
-pub const MET: [&str; 26] = [
+/// the file or by the sign of its order number. The own row of an accepted day's line has refusal 12. Of a line's views
+/// one place is written, or all are; some of several steps have a final payment, or one less a share of T. Of uplift, by
+/// the book of the settled day: groups of several schedules of which a part is taken off.
+pub const MET: [&str; 30] = [
     "views with a share of T",
     "views with a charge for unpaid rises",
     "views with a charge where the bid is pulled",
@@ -33,6 +34,10 @@ pub const MET: [&str; 26] = [
     "views where the highest order number with a sign isn't in force",
     "views with another effective actual than by the line's own row",
     "cuts refused with 12 where the line's view is accepted",
+    "line views of one step",
+    "line views of 56 steps",
+    "line views with payments on several steps",
+    "line views with a share of T on several steps",
     "uplifts with one unit left over",
     "uplifts with several units left over",
     "uplifts with a schedule without a remainder beside one with",
@@ -46,12 +51,13 @@ pub const MET: [&str; 26] = [
 const UPLIFTS: usize = 7;
 
 /// What wasn't refused: the day settled; a view with day, number of its line, line with the rows in force and answer;
-/// the line cut; the day of which a line was lent. And the totals and adjusted totals of the day settled, and whether the
+/// the views of all steps of this line; the line cut; the day of which a line was lent. And the totals and adjusted totals of the day settled, and whether the
 /// cutter refused the line viewed for its own rows.
 pub struct Accepted<'a> {
     pub settled: Option<&'a [u8]>,
     pub totals: Option<(BySchedule<i64>, BySchedule<i64>)>,
     pub viewed: Option<(&'a [u8], usize, Line<'a>, &'a View)>,
+    pub line_views: &'a [View],
     pub cut: Option<Line<'a>>,
     pub lent: Option<&'a [u8]>,
     pub refused_own_row: bool,
@@ -81,6 +87,10 @@ impl Accepted<'_> {
         let some_row = |is_met: fn(&AdHocRow) -> bool| {
             rows.as_ref().is_some_and(|rows| rows.iter().any(is_met))
         };
+        let several = |is_met: fn(&View) -> bool| {
+            let mut met = self.line_views.iter().filter(|view| is_met(view));
+            met.nth(1).is_some()
+        };
         [
             viewed(|_, view| has_share(view)),
             viewed(has_charge_for_unpaid),
@@ -103,6 +113,10 @@ impl Accepted<'_> {
             }),
             some_row(|row| row.other_actual),
             self.refused_own_row,
+            self.line_views.len() == 1,
+            self.line_views.len() == MOST_STEPS,
+            several(|view| view.finals != [0; SCHEDULES]),
+            several(has_share),
         ]
     }
 

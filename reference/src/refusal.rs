@@ -46,6 +46,11 @@ pub fn view_number(day: &[u8], line: u64, step: u64) -> u32 {
     number(check())
 }
 
+/// The number of viewing all steps of a line.
+pub fn line_views_number(day: &[u8], line: u64) -> u32 {
+    number(check_day(day).and_then(|()| check_line_index(day, line)))
+}
+
 /// The number of lending line k's bytes.
 pub fn line_part_number(day: &[u8], k: u64) -> u32 {
     number(check_header(day).and_then(|()| check_line_index(day, k)))

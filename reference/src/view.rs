@@ -6,7 +6,7 @@ use crate::layout::*;
 use crate::matching::PAIRS;
 use crate::payments::finals;
 use crate::pools::Pools;
-use crate::refusal::view_number;
+use crate::refusal::{line_views_number, view_number};
 
 /// What no step takes of a line's totals.
 #[derive(Clone, Debug, Default, PartialEq, Eq)]
@@ -53,6 +53,26 @@ pub fn view(day: &[u8], line: u64, step: u64) -> View {
     let line = day.day.line(line as usize);
     let step = Steps::new(line).nth(step as usize).unwrap();
     day.step(&LineFigures::new(&day.day.market, line), &step)
+}
+
+/// The views of all steps of a line, in order. Refused, there are none.
+#[derive(Clone, Debug, Default, PartialEq, Eq)]
+pub struct LineViews {
+    pub number: u32,
+    pub views: Vec<View>,
+}
+
+/// The line counts from 0.
+pub fn line_views(day: &[u8], line: u64) -> LineViews {
+    let number = line_views_number(day, line);
+    let views = match number {
+        0 => {
+            let day = DayView::new(day);
+            day.line(day.day.line(line as usize)).collect()
+        }
+        _ => Vec::new(),
+    };
+    LineViews { number, views }
 }
 
 /// A day without fault and its pools, worked out once for all its steps.

@@ -42,6 +42,7 @@ __all__ = [
     "book_bytes",
     "cut",
     "line_part",
+    "line_views",
     "settle",
     "settle_into",
     "uplift",
@@ -232,10 +233,16 @@ def view(day: ReadableBuffer, line: SupportsIndex, step: SupportsIndex) -> View:
     data = _bytes(day)
     answer = _library.mewikofu_view(data, len(data), _size(line), _size(step))
     _accept(answer.number)
-    figures = _values(answer)
-    del figures["number"]
-    figures["excess"] = Excess(**_values(answer.excess))
-    return View(**figures)
+    return _view(answer)
+
+
+def line_views(day: ReadableBuffer, line: SupportsIndex) -> Tuple[View, ...]:
+    """Every figure of all steps of a line, counted from 0: what view answers for each step, in order, by one call that works the day out once.
+    The library is lent all 56 places whatever the line's step count; those past the count keep their bytes and aren't answered."""
+    data = _bytes(day)
+    views, count = _VIEWS(), ctypes.c_size_t()
+    _accept(_library.mewikofu_line_views(data, len(data), _size(line), views, count))
+    return tuple(map(_view, views[: count.value]))
 
 
 def cut(line: ReadableBuffer) -> Cut:
@@ -358,6 +365,14 @@ def _schedule(s: SupportsIndex) -> int:
     return place
 
 
+def _view(answer: _View) -> View:
+    """An accepted answer without its number."""
+    figures = _values(answer)
+    del figures["number"]
+    figures["excess"] = Excess(**_values(answer.excess))
+    return View(**figures)
+
+
 def _values(answer: ctypes.Structure) -> Dict[str, Any]:
     """The fields of an answer by their names, arrays as tuples."""
     values = ((field[0], getattr(answer, field[0])) for field in answer._fields_)
@@ -411,6 +426,9 @@ class _View(ctypes.Structure):
     ]
 
 
+_VIEWS = _View * MOST_STEPS
+
+
 class _Cut(ctypes.Structure):
     """The header's struct mewikofu_cut."""
 
@@ -455,6 +473,7 @@ def _load() -> ctypes.CDLL:
         "mewikofu_settle": (number, [data, size, ctypes.c_void_p, size]),
         "mewikofu_uplift": (number, [data, size, lent(ctypes.c_int64)]),
         "mewikofu_view": (_View, [data, size, size, size]),
+        "mewikofu_line_views": (number, [data, size, size, lent(_View), lent(size)]),
         "mewikofu_line_part": (number, [data, size, size, lent(size), lent(size)]),
         "mewikofu_cut": (_Cut, [data, size]),
     }

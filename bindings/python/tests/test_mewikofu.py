@@ -75,6 +75,7 @@ class K10Test(unittest.TestCase):
             modified=paid, finals=paid, excess=mewikofu.Excess(operating=none, pricing=none, actual=0),
         )
         self.assertEqual(step, expected)
+        self.assertEqual(mewikofu.line_views(K10, 0), (mewikofu.view(K10, 0, 0), expected))
         self.assertEqual([step.matched(r, 3) for r in (0, 1, 2)], [0, 500, 0])
         for r, s in ((3, 3), (-1, 3), (0, 5)):
             self.assertRaises(ValueError, step.matched, r, s)
@@ -88,8 +89,12 @@ class K10Test(unittest.TestCase):
             self.assertEqual(number(mewikofu.view, K10, huge, 0), 16)
             self.assertEqual(number(mewikofu.view, K10, 0, huge), 17)
             self.assertEqual(number(mewikofu.line_part, K10, huge), 16)
+            self.assertEqual(number(mewikofu.line_views, K10, huge), 16)
+        self.assertEqual(number(mewikofu.line_views, K10, 1), 16)
         self.assertRaises(ValueError, mewikofu.view, K10, -1, 0)
+        self.assertRaises(ValueError, mewikofu.line_views, K10, -1)
         self.assertRaises(TypeError, mewikofu.view, K10, 0.0, 0)
+        self.assertRaises(TypeError, mewikofu.line_views, K10, 0.0)
         self.assertRaises(TypeError, mewikofu.settle, "text")
 
 
@@ -298,8 +303,8 @@ class AdHocTest(unittest.TestCase):
         day = mewikofu.with_ad_hoc(K10, most)
         self.assertEqual(number(mewikofu.settle, day), 0)
         day = mewikofu.with_ad_hoc(day, most[:1])
-        calls = (mewikofu.settle, day), (mewikofu.view, day, 0, 0), (mewikofu.line_part, day, 0), (mewikofu.ad_hoc_records, day)
-        self.assertEqual([number(*call) for call in calls], [19] * 4)
+        calls = (mewikofu.settle, day), (mewikofu.view, day, 0, 0), (mewikofu.line_views, day, 0), (mewikofu.line_part, day, 0), (mewikofu.ad_hoc_records, day)
+        self.assertEqual([number(*call) for call in calls], [19] * 5)
         self.assertEqual(number(mewikofu.settle, mewikofu.with_ad_hoc(K10, [most[3], most[4], most[3]])), 21)
         one = mewikofu.with_ad_hoc(K10, most[:1])
         for place, word in ((732, 1), (732, 2**32 - 1), (736, 0), (736, 6)):
@@ -419,6 +424,7 @@ class RefusalTest(unittest.TestCase):
         self.assertIn("a bid's price is above 10,000,000 price units, or falls", str(refusal))
         self.assertEqual(pickle.loads(pickle.dumps(refusal)).number, 9)
         self.assertEqual(number(mewikofu.view, REFUSED, 0, 0), 9)
+        self.assertEqual(number(mewikofu.line_views, REFUSED, 0), 9)
 
     def test_short_files(self):
         self.assertEqual([number(mewikofu.settle, day) for day in (b"", K10[:63], bytes(64), K10[:-1])], [1, 1, 2, 3])
@@ -553,9 +559,34 @@ class ReportTest(unittest.TestCase):
         # A line's payments are the sums of its steps' finals.
         day = (ROOT / "examples/both-sides.day").read_bytes()
         for k, line in enumerate(mewikofu.settle(day).lines):
-            finals = [mewikofu.view(day, k, step).finals for step in range(line.steps)]
-            self.assertEqual(tuple(map(sum, zip(*finals))), line.payments)
+            views = mewikofu.line_views(day, k)
+            self.assertEqual(len(views), line.steps)
+            self.assertEqual(tuple(map(sum, zip(*(view.finals for view in views)))), line.payments)
             self.assertEqual(number(mewikofu.view, day, k, line.steps), 17)
+
+    def test_line_views(self):
+        # Figures worked out by hand, as the program `steps` prints them, and the view of each step.
+        files = sorted((ROOT / "examples").glob("*.steps"))
+        self.assertGreaterEqual(len(files), 8)
+        for file in files:
+            day = file.with_suffix(".day").read_bytes()
+            lines = range(len(mewikofu.settle(day).lines))
+            self.assertEqual("".join(self.steps(day, k) for k in lines), file.read_text())
+            for k in lines:
+                views = mewikofu.line_views(day, k)
+                self.assertEqual(views, tuple(mewikofu.view(day, k, step) for step in range(len(views))))
+            self.assertEqual(number(mewikofu.line_views, day, len(lines)), 16)
+
+    def steps(self, day, k):
+        """The rows that the program `steps` prints for a line."""
+        row = lambda *words: " ".join(map(str, words)) + "\n"
+        line, views = mewikofu.settle(day).lines[k], mewikofu.line_views(day, k)
+        text = row("line", k, line.participant, line.point, "WDR" if line.withdrawal else "INJ", line.steps)
+        for j, v in enumerate(views):
+            schedules = zip(v.price, v.flag, v.operating, v.pricing, v.agino, v.msiq, v.constrained, v.initial, v.revised, v.modified, v.finals)
+            text += row("step", j, v.end, v.width, v.actual) + "".join(row(s, *figures) for s, figures in enumerate(schedules, 1)) + row("matches", *v.matches)
+        excess = views[0].excess
+        return text + row("excess pricing", *excess.pricing, "operating", *excess.operating, "actual", excess.actual)
 
 
 if __name__ == "__main__":

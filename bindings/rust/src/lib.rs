@@ -1,8 +1,8 @@
 //! Settlement of one gas day by the proved code of `libengine_c.a` and `libcutter_c.a` (include/mewikofu.h), for Rust programs.
 //!
 //! Every function takes any bytes. A refusal is the first fault met in the order of document 01's table, "Where each refusal is checked".
-//! Lines, steps and schedules count from 0. The functions have no writable data and may be called from any number of threads at once; a call
-//! takes less than 20 KB of stack.
+//! Lines, steps and schedules count from 0. The functions have no writable data and may be called from any number of threads at once; a thread
+//! with 64 KB of stack is enough for each (include/mewikofu.h says how much a call takes).
 
 mod accreditation;
 mod ad_hoc;
@@ -55,6 +55,17 @@ pub fn uplift(day: &[u8]) -> Result<[i64; SCHEDULES], Refusal> {
 /// Every figure of a step of a line, both counted from 0.
 pub fn view(day: &[u8], line: usize, step: usize) -> Result<View, Refusal> {
     raw::view(day, line, step).try_into()
+}
+
+/// Every figure of all steps of a line, counted from 0: what `view` answers for each step, in order, by one call that works the day out once. The
+/// 22,400 bytes of the 56 places that the archive is lent, whatever the line's step count, are on the heap; [`raw::line_views`] takes the caller's own.
+pub fn line_views(day: &[u8], line: usize) -> Result<Vec<View>, Refusal> {
+    let mut views = vec![raw::View::default(); MOST_STEPS];
+    let mut count = 0;
+    let lent = views.first_chunk_mut().expect("as many as are lent");
+    refusal::accepted(raw::line_views(day, line, lent, &mut count))?;
+    views.truncate(count);
+    views.into_iter().map(View::try_from).collect()
 }
 
 /// Cuts the 660 bytes of one line into its steps. The cutter reads the line's own operating rows, so of an accepted day with ad hoc records it may

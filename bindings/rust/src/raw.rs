@@ -1,8 +1,8 @@
 //! The functions of include/mewikofu.h, answering the number: as C has them, under their own names, and with Rust's slices.
 //! All unsafe code of the crate is here.
 //!
-//! Where the number isn't 0, settling leaves the lent bytes as they were, uplift and the line part write 0 to all their places, and of a view or
-//! a cut all other fields are 0.
+//! Where the number isn't 0, settling leaves the lent bytes as they were, uplift and the line part write 0 to all their places, the line views
+//! leave the views as they were and write 0 to the count, and of a view or a cut all other fields are 0.
 //!
 //! # Safety
 //!
@@ -59,6 +59,14 @@ extern "C" {
     pub fn mewikofu_uplift(day: *const u8, length: usize, shares: *mut i64) -> u32;
     /// The step view.
     pub fn mewikofu_view(day: *const u8, length: usize, line: usize, step: usize) -> View;
+    /// The line views. `views` lends 56 values whatever the line's step count, `count` one.
+    pub fn mewikofu_line_views(
+        day: *const u8,
+        length: usize,
+        line: usize,
+        views: *mut View,
+        count: *mut usize,
+    ) -> u32;
     /// The line part. `at` and `part_length` lend one value each.
     pub fn mewikofu_line_part(
         day: *const u8,
@@ -87,6 +95,19 @@ pub fn uplift(day: &[u8], shares: &mut [i64; SCHEDULES]) -> u32 {
 pub fn view(day: &[u8], line: usize, step: usize) -> View {
     // SAFETY: the day's pointer and length are the slice's.
     unsafe { mewikofu_view(day.as_ptr(), day.len(), line, step) }
+}
+
+/// With 0 the first `count` places are written, each with the view of its step. All 56 are lent whatever the line's step count; those past `count` keep
+/// their bytes.
+#[inline]
+pub fn line_views(
+    day: &[u8],
+    line: usize,
+    views: &mut [View; MOST_STEPS],
+    count: &mut usize,
+) -> u32 {
+    // SAFETY: the day's pointer and length are the slice's. The 56 places and the count are borrowed alone, so they overlap neither each other nor the day.
+    unsafe { mewikofu_line_views(day.as_ptr(), day.len(), line, views.as_mut_ptr(), count) }
 }
 
 #[inline]

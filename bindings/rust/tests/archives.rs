@@ -26,6 +26,11 @@ fn calls() {
     assert_eq!(raw::view(&[], 0, 0), refused);
     let mut shares = [-1; 5];
     assert_eq!((raw::uplift(&[], &mut shares), shares), (1, [0; 5]));
+    let mut views = std::array::from_fn(|_| refused.clone());
+    let mut count = 9;
+    assert_eq!(raw::line_views(&[], 0, &mut views, &mut count), 1);
+    assert_eq!(count, 0);
+    assert!(views.iter().all(|view| *view == refused));
     let cut = raw::cut(&[]);
     assert_eq!((cut.number, cut.count, cut.reserved), (18, 0, 0));
 }

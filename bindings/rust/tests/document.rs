@@ -1,8 +1,9 @@
 //! The binding beside document 01, docs/REFUSALS.md and include/mewikofu.h.
 
 use mewikofu::{
-    ad_hoc_records, cut, line_part, match_place, raw, settle, uplift, view, with_ad_hoc,
-    Accreditation, AdHoc, Cut, Excess, Refusal, Side, View, AD_HOC_BYTES, MOST_AD_HOC, MOST_EXCESS,
+    ad_hoc_records, cut, line_part, line_views, match_place, raw, settle, uplift, view,
+    with_ad_hoc, Accreditation, AdHoc, Cut, Excess, Refusal, Side, View, AD_HOC_BYTES, MOST_AD_HOC,
+    MOST_EXCESS,
 };
 use std::mem::offset_of;
 
@@ -26,6 +27,11 @@ fn k10() {
     assert_eq!(line.payments, [0, 20_000_000, 0, -10_000_000, 0]);
     let step = view(K10, 0, 1).unwrap();
     assert_eq!(step.constrained, [0, 1000, 1000, 500, 500]);
+    let [first, second] = &line_views(K10, 0).unwrap()[..] else {
+        panic!("K10's line has two steps");
+    };
+    assert_eq!((first.end, first.finals), (1000, [0; 5]));
+    assert_eq!((second, second.finals), (&step, line.payments));
     assert_eq!(step.matches[match_place(1, 3)], 500);
     assert_eq!([0, 1, 2].map(|r| step.matched(r, 3)), [0, 500, 0]);
     assert_eq!(line_part(K10, 0).map(<[u8]>::len), Ok(660));
@@ -103,6 +109,7 @@ fn a_refused_day() {
     let refusal = settle(REFUSED).unwrap_err();
     assert_eq!(refusal, Refusal::Prices);
     assert_eq!(view(REFUSED, 0, 0), Err(Refusal::Prices));
+    assert_eq!(line_views(REFUSED, 0), Err(Refusal::Prices));
     let text = refusal.to_string();
     assert!(
         text.starts_with("refused 9: a bid's price is above 10,000,000"),
@@ -145,6 +152,7 @@ fn refused_answers() {
     assert_eq!(View::try_from(numbered_view(0)), Ok(View::default()));
     assert_eq!(Cut::try_from(numbered_cut(0)), Ok(Cut::default()));
     assert_eq!(view(&[], 0, 0), Err(Refusal::FileShort));
+    assert_eq!(line_views(&[], 0), Err(Refusal::FileShort));
     assert_eq!(cut(&[]), Err(Refusal::LineLength));
 }
 
@@ -447,6 +455,7 @@ fn refused_ad_hoc_records() {
     let day = with_ad_hoc(&day, &most[..1]).unwrap();
     assert_eq!(settle(&day), Err(Refusal::AdHocCount));
     assert_eq!(view(&day, 0, 0), Err(Refusal::AdHocCount));
+    assert_eq!(line_views(&day, 0), Err(Refusal::AdHocCount));
     assert_eq!(line_part(&day, 0), Err(Refusal::AdHocCount));
     assert_eq!(ad_hoc_records(&day), Err(Refusal::AdHocCount));
     let twice = with_ad_hoc(K10, &[most[3], most[4], most[3]]).unwrap();

@@ -2,7 +2,8 @@
 //! MEWIKOFU_DAYS in the environment is how many days, 20,000 where it isn't set.
 
 use mewikofu::{
-    book_bytes, cut, line_part, raw, settle, settle_into, uplift, view, Cut, Refusal, Side, View,
+    book_bytes, cut, line_part, line_views, raw, settle, settle_into, uplift, view, Cut, Refusal,
+    Side, View, MOST_STEPS,
 };
 use reference::generate::{
     ad_hoc_damaged_day, ad_hoc_day, ad_hoc_fault_day, damaged_day, excess_day, excess_fault_day,
@@ -80,13 +81,14 @@ fn refused<T>(number: u32) -> Result<T, Refusal> {
 }
 
 /// How often each number was answered, how many views had an excess of operating, pricing and actual, and how many were of a line with an ad hoc
-/// row, and with a payment in its schedule; how many days had neighbouring shares above 0, below 0, and shares other than the adjusted totals. So
-/// the test shows what it reached.
+/// row, and with a payment in its schedule; how many line views had one step, some and all places written, and how many had payments on several
+/// steps; how many days had neighbouring shares above 0, below 0, and shares other than the adjusted totals. So the test shows what it reached.
 #[derive(Debug, Default)]
 struct Reached {
     numbers: [u64; Refusal::ALL.len() + 1],
     excess: [u64; 3],
     ad_hoc: [u64; 2],
+    line_views: [u64; 4],
     uplift: [u64; 3],
 }
 
@@ -101,6 +103,7 @@ fn generated_days() {
         check_settling(k, &day, lines.min(MOST_LINES), &mut reached);
         check_uplift(k, &day, &mut reached);
         check_views(k, &day, lines, &mut reached);
+        check_lines_views(k, &day, lines, &mut reached);
         check_parts(k, &day, lines, &mut reached);
         check_cuts(k, &day, lines, &mut reached);
         assert_eq!(day, before, "day {k} was changed");
@@ -109,6 +112,7 @@ fn generated_days() {
     // Of the numbers fuzzing asks whether the calls of their places answer them.
     if count >= 1_000 {
         let views = reached.excess.iter().chain(&reached.ad_hoc);
+        let views = views.chain(&reached.line_views);
         let mut all = reached.numbers.iter().chain(views).chain(&reached.uplift);
         assert!(all.all(|&times| times > 0), "{reached:?}");
     }
@@ -255,9 +259,9 @@ fn count_view(day: &[u8], line: usize, view: &reference::view::View, reached: &m
     reached.ad_hoc[1] += u64::from(payments.iter().any(|&payment| payment != 0));
 }
 
-/// The C function's answer, with its number, and what the safe one makes of it.
-fn check_view(at: &str, day: &[u8], line: usize, step: usize, expected: reference::view::View) {
-    let expected = raw::View {
+/// The reference's view as the C function answers it.
+fn raw_view(expected: reference::view::View) -> raw::View {
+    raw::View {
         initial: expected.initial,
         revised: expected.revised,
         modified: expected.modified,
@@ -279,12 +283,98 @@ fn check_view(at: &str, day: &[u8], line: usize, step: usize, expected: referenc
             pricing: expected.excess.pricing,
             actual: expected.excess.actual,
         },
-    };
+    }
+}
+
+/// The C function's answer, with its number, and what the safe one makes of it.
+fn check_view(at: &str, day: &[u8], line: usize, step: usize, expected: reference::view::View) {
+    let expected = raw_view(expected);
     assert_eq!(raw::view(day, line, step), expected, "{at}");
     match expected.number {
         0 => assert_eq!(view(day, line, step), View::try_from(expected), "{at}"),
         number => assert_eq!(view(day, line, step), refused(number), "{at}"),
     }
+}
+
+fn check_lines_views(k: u64, day: &[u8], lines: usize, reached: &mut Reached) {
+    let (line, last) = (some(k, 7, lines), lines.saturating_sub(1));
+    for line in [0, line, last, lines, HUGE[some(k, 8, 4)]] {
+        let expected = reference::view::line_views(day, line as u64);
+        reached.numbers[expected.number as usize] += 1;
+        let at = format!("day {k} line {line}");
+        let found = check_line_views(&at, day, line, expected);
+        let paid = found.iter().filter(|view| view.finals != [0; 5]).count();
+        let met = [
+            found.len() == 1,
+            (2..MOST_STEPS).contains(&found.len()),
+            found.len() == MOST_STEPS,
+            paid > 1,
+        ];
+        for (times, met) in reached.line_views.iter_mut().zip(met) {
+            *times += u64::from(met);
+        }
+        // A view for each step works the day out each time, so it is asked of some days alone.
+        if k % 12 == k / 12 % 12 && day.len() < line_at(day, 8) {
+            let views: Result<Vec<View>, Refusal> =
+                (0..found.len()).map(|step| view(day, line, step)).collect();
+            assert_eq!(views, Ok(found), "{at}");
+        }
+    }
+}
+
+/// What a place holds before: in no field what a view has there, and in each place something else.
+fn unwritten(place: usize) -> raw::View {
+    let (money, word) = (i64::MIN + place as i64, u32::MAX - place as u32);
+    raw::View {
+        initial: [money; 5],
+        revised: [money; 5],
+        modified: [money; 5],
+        finals: [money; 5],
+        number: word,
+        end: word,
+        width: word,
+        actual: word,
+        price: [word; 5],
+        flag: [word; 5],
+        operating: [word; 5],
+        pricing: [word; 5],
+        agino: [word; 5],
+        msiq: [word; 5],
+        constrained: [word; 5],
+        matches: [word; 10],
+        excess: mewikofu::Excess {
+            operating: [word; 5],
+            pricing: [word; 5],
+            actual: word,
+        },
+    }
+}
+
+/// The C function's answers in places that hold something else before, and what the safe one makes of them.
+fn check_line_views(
+    at: &str,
+    day: &[u8],
+    line: usize,
+    expected: reference::view::LineViews,
+) -> Vec<View> {
+    let (number, steps) = (expected.number, expected.views.len());
+    let before: [raw::View; MOST_STEPS] = std::array::from_fn(unwritten);
+    let mut after = before.clone();
+    for (place, view) in after.iter_mut().zip(expected.views) {
+        *place = raw_view(view);
+    }
+    let (mut views, mut count) = (Box::new(before), usize::MAX);
+    assert_eq!(raw::line_views(day, line, &mut views, &mut count), number);
+    assert_eq!(count, steps, "{at}");
+    assert!(*views == after, "{at}: {views:?}, not {after:?}");
+    if number != 0 {
+        assert_eq!(line_views(day, line), refused(number), "{at}");
+        return Vec::new();
+    }
+    let own = after.into_iter().take(steps).map(View::try_from);
+    let own: Result<Vec<View>, Refusal> = own.collect();
+    assert_eq!(line_views(day, line), own, "{at}");
+    own.unwrap()
 }
 
 fn check_parts(k: u64, day: &[u8], lines: usize, reached: &mut Reached) {

@@ -1,7 +1,8 @@
-//! The functions called from several threads at once, each with 32 KB of stack: they have no writable data and need no lock.
+//! The functions called from several threads at once: they have no writable data and need no lock.
 
 use mewikofu::{
-    book_bytes, cut, line_part, settle_into, uplift, view, Cut, Refusal, View, MOST_LINES,
+    book_bytes, cut, line_part, line_views, settle_into, uplift, view, Cut, Refusal, View,
+    MOST_LINES,
 };
 use reference::generate::{damaged_day, valid_day};
 use std::sync::{Arc, Barrier};
@@ -9,14 +10,17 @@ use std::thread::Builder;
 
 const THREADS: usize = 8;
 const ROUNDS: usize = 20;
+/// Of each thread: enough for any of the functions (include/mewikofu.h) and for the test's own.
+const STACK: usize = 64 * 1024;
 
-/// What the functions answer for a day, its last line and the first step of that line.
+/// What the functions answer for a day, its last line and the first and all steps of that line.
 #[derive(Debug, PartialEq)]
 struct Answers {
     number: Result<(), Refusal>,
     book: Box<[u8]>,
     uplift: Result<[i64; 5], Refusal>,
     view: Result<Box<View>, Refusal>,
+    line_views: Result<Vec<View>, Refusal>,
     cut: Result<Box<Cut>, Refusal>,
 }
 
@@ -29,6 +33,7 @@ fn answers(day: &[u8]) -> Answers {
         book,
         uplift: uplift(day),
         view: view(day, last, 0).map(Box::new),
+        line_views: line_views(day, last),
         cut: line_part(day, last).and_then(cut).map(Box::new),
     }
 }
@@ -56,7 +61,7 @@ fn threads() {
                     answers(&days[k]) == expected[k]
                 })
             };
-            Builder::new().stack_size(32 * 1024).spawn(work).unwrap()
+            Builder::new().stack_size(STACK).spawn(work).unwrap()
         })
         .collect();
     for thread in threads {

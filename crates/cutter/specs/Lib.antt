@@ -3,5 +3,7 @@ pub mod Lists
 pub mod Ends
 pub mod Prices
 pub mod Arrays
+-- Where the sweep stands.
+pub mod Positions
 -- The cutter's certificate.
 pub mod Certificate

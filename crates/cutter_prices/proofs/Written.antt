@@ -13,10 +13,11 @@ use Rattle.rules.specs.Payments.{bit}
 use Rattle.laws.specs.Sources.{source-own, source-pulled, nearest}
 use Rattle.cutter_cursors.specs.Sweep.{Line, Standing, placeOf}
 use Rattle.cutter_cursors.specs.Places.{of-bid}
-use Rattle.cutter_prices.specs.Step.{beforePrice, slotOf, slotsOf, stepPrice, putTo, pricesPut, missingWith, runWord}
+use Rattle.cutter_prices.specs.Step.{beforePrice, slotOf, slotsOf, stepPrice, stepRows, putTo, pricesPut, missingWith, runWord}
 use Rattle.cutter_prices.specs.Rule.{flag-most, flag-place}
 use Rattle.cutter_prices.specs.Slots.{slot-own, slot-pulled, slot-most, price-slot}
 use Rattle.cutter_prices.specs.declared.StepPrice.{StepPrice}
+use Rattle.cutter_prices.specs.declared.StepRows.{StepRows}
 use Rattle.cutter_prices.specs.declared.Slots.{Slots}
 use Rattle.cutter_prices.specs.declared.Missing.{Missing}
 
@@ -140,3 +141,9 @@ pub words-are : (n : ℕ) (m : Missing) {a b c d e : ℕ} → a ≡ runWord n (m
     → d ≡ runWord n (m .fourth) → e ≡ runWord n (m .fifth)
     → (a ∷ b ∷ c ∷ d ∷ e ∷ []) ≡ (runWord n (m .first) ∷ runWord n (m .second) ∷ runWord n (m .third) ∷ runWord n (m .fourth) ∷ runWord n (m .fifth) ∷ [])
 words-are n m a b c d e = λ i. a i ∷ b i ∷ c i ∷ d i ∷ e i ∷ []
+
+-- the five schedules' prices and flags
+pub rows-are : (w : List ℕ) (u : ℕ) {a b c d e : StepPrice} → a ≡ stepPrice w 0 u → b ≡ stepPrice w 1 u → c ≡ stepPrice w 2 u → d ≡ stepPrice w 3 u → e ≡ stepPrice w 4 u
+    → _≡_ {A = StepRows} (record { price = a .price ∷ b .price ∷ c .price ∷ d .price ∷ e .price ∷ []; flag = a .flag ∷ b .flag ∷ c .flag ∷ d .flag ∷ e .flag ∷ [] }) (stepRows w u)
+unfolding stepRows stepPrice
+rows-are w u a b c d e = rw (a, b, c, d, e)

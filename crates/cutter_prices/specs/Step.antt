@@ -4,9 +4,11 @@ use mathlib.Core.Bool.{cond}
 use mathlib.Core.List.{List}
 use lib.ListN.{set}
 use lib.Dec.{eqb}
+use Rattle.rules.specs.Fold.{five}
 use Rattle.rules.specs.Layout.{bidWord, bidCount}
 use Rattle.rules.specs.Steps.{source, price, flag}
 use Rattle.cutter_prices.specs.declared.StepPrice.{StepPrice}
+use Rattle.cutter_prices.specs.declared.StepRows.{StepRows}
 use Rattle.cutter_prices.specs.declared.Slots.{Slots}
 use Rattle.cutter_prices.specs.declared.Missing.{Missing}
 
@@ -25,6 +27,10 @@ slotsOf w = record { first = slotOf w 0; second = slotOf w 1; third = slotOf w 2
 -- the uncapped price and the flag of the step that ends at u, in schedule s
 unfoldable pub stepPrice : List ℕ → ℕ → ℕ → StepPrice
 stepPrice w s u = record { price = price w s u; flag = flag w s u }
+
+-- the same in the five schedules
+unfoldable pub stepRows : List ℕ → ℕ → StepRows
+stepRows w u = record { price = five (λ s. price w s u); flag = five (λ s. flag w s u) }
 
 -- l with v s at place n of row s, for the first m rows of 56
 unfoldable pub putTo : ℕ → List ℕ → ℕ → (ℕ → ℕ) → List ℕ

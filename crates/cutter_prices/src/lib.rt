@@ -13,12 +13,18 @@ ghost use Prim.Native.Nat.{_+_, _*_, _≤_, _<_};
 ghost use lib.ListN.{set};
 ghost use Rattle.rules.specs.Steps.{source, price, flag};
 ghost use Rattle.cutter_cursors.specs.Sweep.{Line, Standing, SweepAt};
-ghost use Rattle.cutter_prices.specs.Step.{slotOf, slotsOf, stepPrice, pricesPut, MissingMost, missingWith, runWord};
+ghost use Rattle.cutter_prices.specs.Step.{slotOf, slotsOf, stepPrice, stepRows, pricesPut, MissingMost, missingWith, runWord};
 
 // A step's uncapped price in one schedule, and its flag: 1 where no break of the bid is at least the step's end.
 pub struct StepPrice {
     pub price: u32,
     pub flag: u32,
+}
+
+// The same in the five schedules.
+pub struct StepRows {
+    pub price: [u32; 5],
+    pub flag: [u32; 5],
 }
 
 // Where each schedule's prices stand: that of bid step `at`, counted from 1, is `at` words after this byte.
@@ -87,6 +93,22 @@ fn step_price(line: &[u8], s: usize, slot: usize, at: usize, u: u32) -> StepPric
     StepPrice {
         price: word_at(line, slot + 4 * at),
         flag: bit(bid_break(line, s, at - 1) < u),
+    }
+}
+
+// The prices and flags of the step that ends at u, in the five schedules.
+pub fn step_rows(line: &[u8], slots: Slots, places: Sweep, u: u32) -> StepRows
+    requires { ⌜ SweepAt (now line) places u × (slots ≡ slotsOf (now line)) ⌝ }
+    ensures { λ r. ⌜ r ≡ stepRows (now (line .entry)) u ⌝ }
+{
+    let a = step_price(line, 0, slots.first, places.first, u);
+    let b = step_price(line, 1, slots.second, places.second, u);
+    let c = step_price(line, 2, slots.third, places.third, u);
+    let d = step_price(line, 3, slots.fourth, places.fourth, u);
+    let e = step_price(line, 4, slots.fifth, places.fifth, u);
+    StepRows {
+        price: [a.price, b.price, c.price, d.price, e.price],
+        flag: [a.flag, b.flag, c.flag, d.flag, e.flag],
     }
 }
 

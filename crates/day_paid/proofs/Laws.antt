@@ -9,13 +9,18 @@ use lib.Seq.{sets}
 use lib.IntN.{ℤ}
 use borrow.Author.Tests.{eq-eqb, ne-eqb}
 use Rattle.rules.specs.Fold.{five, atZ, listTo}
+use Rattle.rules.specs.Layout.{clawback}
 use Rattle.rules.specs.Payments.{Day}
 use Rattle.rules.specs.Totals.{total, totals, adjusted, adjustedTotal}
 use Rattle.step_payments.specs.declared.amounts.Money.{Money}
 use Rattle.step_pool.specs.declared.pool_amounts.SidePool.{SidePool}
 use Rattle.step_payments.specs.Amounts.{Signable, signedPayment}
 use Rattle.step_pool.specs.Amounts.{moneySum, MoneyAddable}
+use Rattle.laws.specs.Accepted.{AcceptedDay}
+use Rattle.step_inputs.specs.declared.inputs.Market.{Market}
+use Rattle.step_inputs.specs.Inputs.{marketOf}
 use Rattle.step_inputs.specs.Paid.{DaySized, day-bounded}
+use Rattle.day_pools.proofs.Laws.{market-claw}
 use Rattle.day_pools.specs.Sums.{moneyTo, money-more}
 use Rattle.day_pools.specs.Lines.{stepMoney, line-signable}
 use Rattle.day_totals.specs.Sizes.{Bounded}
@@ -49,6 +54,10 @@ module _ (y : Day) (k : ℕ) where
   pub money-signable : DaySized y → k < y .lines → (m : Money) → m ≡ moneyTo (y .count k) (stepMoney y k) → Signable m
   money-signable z l m e = subst Signable (sym e) (line-signable y z k l)
 
+  pub money-steps : (m : Money) → m ≡ lineMoney y k → m ≡ moneyTo (y .count k) (stepMoney y k)
+  unfolding lineMoney
+  money-steps m e = e
+
   pub line-money : (m : Money) → m ≡ moneyTo (y .count k) (stepMoney y k) → m ≡ lineMoney y k
   unfolding lineMoney
   line-money m e = e
@@ -65,14 +74,19 @@ module _ (y : Day) (k : ℕ) where
 pub lines-next : (y : Day) (k : ℕ) (q m r : Money) → q ≡ moneyTo k (lineMoney y) → m ≡ lineMoney y k → r ≡ moneySum q m → r ≡ moneyTo (k + 1) (lineMoney y)
 lines-next y k q m r qe me re = re ∙ rw (qe, me) (sym (money-more k (lineMoney y)))
 
+pub all-paid : (y : Day) (k n : ℕ) (q : Money) (l m : List ℤ) → n ≡ y .lines → k ≤ n → n ≤ k → q ≡ moneyTo k (lineMoney y) → m ≡ sets l 0 (paymentsTo y k)
+    → (q ≡ moneyTo (y .lines) (lineMoney y)) × (m ≡ sets l 0 (paymentsTo y (y .lines)))
+all-paid y k n q l m ne h g qe me =
+    let e : k ≡ y .lines = omega arith in
+    (qe ∙ ap (λ (j : ℕ). moneyTo j (lineMoney y)) e, me ∙ ap (λ (j : ℕ). sets l 0 (paymentsTo y j)) e)
+
 pub lines-paid : (y : Day) (k n : ℕ) (q : Money) (l m : List ℤ) (b c : List ℕ) → n ≡ y .lines → k ≤ n → n ≤ k
     → q ≡ moneyTo k (lineMoney y) → m ≡ sets l 0 (paymentsTo y k) → c ≡ sets b 0 (listTo k (y .count))
     → (q ≡ moneyTo (y .lines) (lineMoney y)) × ((m ≡ sets l 0 (paymentsTo y (y .lines))) × (c ≡ sets b 0 (listTo (y .lines) (y .count))))
 lines-paid y k n q l m b c ne h g qe me ce =
-    let e : k ≡ y .lines = omega arith in (
-      qe ∙ ap (λ (j : ℕ). moneyTo j (lineMoney y)) e,
-      (me ∙ ap (λ (j : ℕ). sets l 0 (paymentsTo y j)) e, ce ∙ ap (λ (j : ℕ). sets b 0 (listTo j (y .count))) e),
-    )
+    let e : k ≡ y .lines = omega arith in
+    let p = all-paid y k n q l m ne h g qe me in
+    (p .0, (p .1, ce ∙ ap (λ (j : ℕ). sets b 0 (listTo j (y .count))) e))
 
 -- the totals
 module _ (y : Day) (z : DaySized y) (q : Money) (qe : q ≡ moneyTo (y .lines) (lineMoney y)) where
@@ -90,3 +104,7 @@ module _ (y : Day) (z : DaySized y) (q : Money) (qe : q ≡ moneyTo (y .lines) (
     pub adjusted-there : (u : List ℤ) → u ≡ five (adjusted t) → u ≡ five (adjustedTotal y)
     unfolding adjustedTotal totals
     adjusted-there u ue = ue ∙ ap (λ (x : List ℤ). five (adjusted x)) totals-there
+
+-- the clawback switch is 0 or 1
+pub clawback-on : (d : List ℕ) → AcceptedDay d → (m : Market) → m ≡ marketOf d → (m .clawback ≡ 0 → ⊥) → clawback d ≡ 1
+clawback-on d a m e n = let q = market-claw d m e in omega (arith, a .market .clawback-most)

@@ -1,2 +1,3 @@
 -- Laws that proofs of functions cite.
 pub mod Laws
+pub mod Kept

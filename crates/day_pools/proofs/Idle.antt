@@ -1,28 +1,28 @@
 -- A step outside its line's window adds nothing to pool or money.
-use Prim.Native.Nat.{ℕ, _≤_, _<_, max}
+use Prim.Native.Nat.{ℕ, _≤_, max}
 use native.Mathlib.Omega.{arith}
 use mathlib.Core.Path.{_≡_, refl, sym, _∙_, ap, subst}
-use mathlib.Core.Bool.{Bool, true, false, cond, _||_, false≢true}
+use mathlib.Core.Bool.{Bool, true, false, cond}
 use mathlib.Core.List.{List}
-use lib.ListN.{getD, replicate}
+use lib.ListN.{replicate}
 use lib.Dec.{leb}
 use borrow.Author.Tests.{leb-true, leb-false, ne-eqb}
 use Rattle.rules.specs.Fold.{mostTo, five, at}
 use Rattle.rules.specs.Quantities.{leastFrom}
 use Rattle.rules.specs.Layout.{lineAt}
+use Rattle.rules.specs.InForce.{tableInForce}
+use Rattle.rules.specs.Steps.{upperEnd, lowerEnd, price, flag}
 use Rattle.rules.specs.Days.{stepOf}
 use Rattle.rules.specs.declared.Step.{Step}
-use Rattle.cutter.specs.Arrays.{priceIn, flagIn}
-use Rattle.cutter.specs.Ends.{count-most}
 use Rattle.step_terms.specs.Terms.{paidRow}
 use Rattle.step_inputs.specs.declared.inputs.Market.{Market}
 use Rattle.step_inputs.specs.declared.inputs.LineTotals.{LineTotals}
-use Rattle.step_inputs.specs.Inputs.{stepWith, StepReady}
-use Rattle.step_inputs.proofs.inputs.Laws.{step-ready}
-use Rattle.step_pool.specs.Amounts.{allZero}
-use Rattle.step_pool.proofs.pool_amounts.Idle.{Idle, idle-unpaid, idle-within, idle-past}
+use Rattle.step_inputs.specs.Inputs.{marketOf, totalsOf, stepWith}
+use Rattle.step_inputs.specs.Steps.{step-parts}
+use Rattle.step_pool.specs.Amounts.{Idle, allZero}
+use Rattle.step_pool.proofs.pool_amounts.Idle.{idle-unpaid, idle-within, idle-past, idle-covered}
 use Rattle.day_pools.specs.declared.window.Window.{Window}
-use Rattle.day_pools.specs.Window.{windowOf, isOutside}
+use Rattle.day_pools.specs.Window.{windowOf, isCovered}
 
 zeros : true ≡ allZero (replicate 5 0)
 unfolding allZero mostTo
@@ -56,15 +56,17 @@ module _ (m : Market) (t : LineTotals) (l u : ℕ) (p f : List ℕ) where
   past-by true e b = idle-unpaid x (none-by (leb u (t .hedge)) refl (sym e))
   past-by false e b = idle-past x b
 
-  outside-by : (a b : Bool) → leb u (windowOf t .from) ≡ a → leb (windowOf t .to) l ≡ b → true ≡ a || b → Idle x
+  ends-below : u ≤ windowOf t .from → Idle x
   unfolding windowOf
-  outside-by true b d e h = below-by (leb u (t .hedge)) refl (leb-true _ _ d)
-  outside-by false true d e h = past-by (allZero (t .accredited)) refl (leb-true _ _ e)
-  outside-by false false d e h = absurd (false≢true (sym h))
+  ends-below h = below-by (leb u (t .hedge)) refl h
 
-  idle-with : true ≡ isOutside (windowOf t) l u → Idle x
-  unfolding isOutside
-  idle-with h = outside-by (leb u (windowOf t .from)) (leb (windowOf t .to) l) refl refl h
+  begins-past : windowOf t .to ≤ l → Idle x
+  unfolding windowOf
+  begins-past h = past-by (allZero (t .accredited)) refl h
+
+  all-covered : isCovered t ≡ true → Idle x
+  unfolding isCovered stepWith
+  all-covered h = idle-covered x (leb-true _ _ h)
 
 -- the window, from what the code has worked out
 module _ (t : LineTotals) (n a z : ℕ) (least : n ≡ leastFrom (t .pricing) 0 4) (begin : a ≡ max (t .hedge) n) (marks : z ≡ mostTo 5 (at (t .accredited))) where
@@ -78,15 +80,23 @@ module _ (t : LineTotals) (n a z : ℕ) (least : n ≡ leastFrom (t .pricing) 0 
   unfolding windowOf allZero
   window-some e o most = rw (begin, least, most, ne-eqb (mostTo 5 (at (t .accredited))) 0 (λ q. e (marks ∙ q)))
 
--- step j of line k, with what it would be put together from
-pub few : (d : List ℕ) (k : ℕ) (m : Market) (t : LineTotals) (es ps fs : List ℕ) (lo j : ℕ) → StepReady d k m t es ps fs lo j → j < 56
-few d k m t es ps fs lo j r = omega (arith, r .step, count-most (lineAt d k) (r .accepted))
+-- step j of line k, by where it ends and begins
+module _ (d : List ℕ) (k j : ℕ) where
+  abbrev w : List ℕ
+  w = lineAt d k
 
-pub idle-outside : (d : List ℕ) (k : ℕ) (m : Market) (t : LineTotals) (es ps fs : List ℕ) (lo j : ℕ) → StepReady d k m t es ps fs lo j
-    → (w : Window) → w ≡ windowOf t → true ≡ isOutside w lo (getD es j 0) → Idle (stepOf d k j)
-idle-outside d k m t es ps fs lo j r w e h =
-    let u = getD es j 0 in
-    let p = five (priceIn ps j) in
-    let f = five (flagIn fs j) in
-    let same : stepWith m t lo u p f ≡ stepOf d k j = step-ready d k m t es ps fs lo j r u p f (stepWith m t lo u p f) refl refl refl refl in
-    subst Idle same (idle-with m t lo u p f (h ∙ ap (λ (z : Window). isOutside z lo u) e))
+  whole : stepWith (marketOf d) (totalsOf (tableInForce d k) w) (lowerEnd w j) (upperEnd w j) (five (λ s. price w s (upperEnd w j))) (five (λ s. flag w s (upperEnd w j)))
+      ≡ stepOf d k j
+  whole = step-parts d k j (five (λ s. price w s (upperEnd w j))) (five (λ s. flag w s (upperEnd w j))) refl refl
+
+  pub below-idle : (t : LineTotals) → t ≡ totalsOf (tableInForce d k) (lineAt d k) → upperEnd (lineAt d k) j ≤ windowOf t .from → Idle (stepOf d k j)
+  below-idle t e h =
+      subst Idle whole (ends-below (marketOf d) (totalsOf (tableInForce d k) w) (lowerEnd w j) (upperEnd w j) _ _ (subst (λ (z : LineTotals). upperEnd w j ≤ windowOf z .from) e h))
+
+  pub past-idle : (t : LineTotals) → t ≡ totalsOf (tableInForce d k) (lineAt d k) → windowOf t .to ≤ lowerEnd (lineAt d k) j → Idle (stepOf d k j)
+  past-idle t e h =
+      subst Idle whole (begins-past (marketOf d) (totalsOf (tableInForce d k) w) (lowerEnd w j) (upperEnd w j) _ _ (subst (λ (z : LineTotals). windowOf z .to ≤ lowerEnd w j) e h))
+
+  pub covered-idle : (t : LineTotals) → t ≡ totalsOf (tableInForce d k) (lineAt d k) → isCovered t ≡ true → Idle (stepOf d k j)
+  covered-idle t e h =
+      subst Idle whole (all-covered (marketOf d) (totalsOf (tableInForce d k) w) (lowerEnd w j) (upperEnd w j) _ _ (subst (λ (z : LineTotals). isCovered z ≡ true) e h))

@@ -34,6 +34,7 @@ use Rattle.step_inputs.specs.Paid.{DaySized, settled-sized}
 use Rattle.day_pools.specs.Sums.{poolTo, pool-more, moneyTo, money-more}
 use Rattle.day_pools.specs.Sides.{stepPoolAt, linePool, sidePart, sidePool}
 use Rattle.day_pools.specs.Lines.{PoolFor, Payable, payable, stepMoney, step-money-is, money-adds, no-pool}
+use Rattle.day_pools.specs.Passes.{LineReady}
 use Rattle.day_pools.specs.Sizes.{steps-addable, lines-addable}
 
 -- line k of an accepted day
@@ -53,6 +54,35 @@ module _ (d : List ℕ) (a : AcceptedDay d) (k : ℕ) (l : k < lineCount d) wher
 
   pub lent-line : (v : List ℕ) → v ≡ lineAt d k → Line v
   lent-line v e = record { long = lent-length v e; accepted = subst AcceptedLine (sym e) (accepted-line-at d a k l) }
+
+  pub ready-is : (v : List ℕ) (tb : List (List ℕ)) (t : LineTotals) → v ≡ lineAt d k → tb ≡ tableInForce d k → t ≡ totalsOf tb v → LineReady d k v t
+  ready-is v tb t e be te =
+      record { accepted = a; there = l; line = e; totals = te ∙ ap (λ (z : List (List ℕ)). totalsOf z v) be }
+
+  -- step j of it
+  module _ (j : ℕ) (below : j < stepCount (lineAt d k)) where
+    pub sized-at : Sized (stepOf d k j)
+    sized-at = settled-sized d a .steps k l j below
+
+    -- the pool with this step
+    pub pool-addable : (q : SidePool) → q ≡ poolTo j (stepPoolAt (settledDay d) k) → Addable q (stepPool (stepOf d k j))
+    unfolding stepPoolAt
+    pool-addable q qe = rw qe (steps-addable (settledDay d) (settled-sized d a) k j l below)
+
+    pub pool-next : (q r : SidePool) → q ≡ poolTo j (stepPoolAt (settledDay d) k) → r ≡ poolSum q (stepPool (stepOf d k j)) → r ≡ poolTo (j + 1) (stepPoolAt (settledDay d) k)
+    unfolding stepPoolAt
+    pool-next q r qe re = re ∙ rw qe (sym (pool-more j (stepPoolAt (settledDay d) k)))
+
+    -- the money with this step
+    pub money-addable : (q m : Money) → q ≡ moneyTo j (stepMoney (settledDay d) k) → m ≡ stepMoney (settledDay d) k j → MoneyAddable q m
+    money-addable q m qe me = rw (qe, me) (money-adds (settledDay d) (settled-sized d a) k j l below)
+
+    module _ (p : SidePool) (g : PoolFor (settledDay d) (side (lineAt d k)) p) (cl : ℕ) (ce : cl ≡ clawback d) where
+      pub payable-at : Payable (stepOf d k j) cl p
+      payable-at = rw ce (payable (settledDay d) (settled-sized d a) k j l below p g)
+
+      pub money-there : moneyOf (finalOn (stepOf d k j) cl p) ≡ stepMoney (settledDay d) k j
+      money-there = rw ce (step-money-is (settledDay d) k j p g)
 
   -- the cutter's answer for it
   module _ (v : List ℕ) (e : v ≡ lineAt d k) (c : Cut) (cut : c ≡ cutOf v) where
@@ -87,7 +117,7 @@ module _ (d : List ℕ) (a : AcceptedDay d) (k : ℕ) (l : k < lineCount d) wher
           }
 
       pub step-sized : (x : Step) → x ≡ stepOf d k j → Sized x
-      step-sized x xe = subst Sized (sym xe) (settled-sized d a .steps k l j below)
+      step-sized x xe = subst Sized (sym xe) (sized-at j below)
 
       -- the lower end of the next step
       pub next-lower : (u : ℕ) → u ≡ getD (c .ends) j 0 → u ≡ lowerEnd (lineAt d k) (j + 1)
@@ -96,28 +126,8 @@ module _ (d : List ℕ) (a : AcceptedDay d) (k : ℕ) (l : k < lineCount d) wher
           let e = end-is (lineAt d k) (accepted-line-at d a k l) j below in
           rw add-one (ue ∙ ap (λ (z : Cut). getD (z .ends) j 0) own ∙ e)
 
-      -- the pool with this step
-      pub pool-addable : (q : SidePool) → q ≡ poolTo j (stepPoolAt (settledDay d) k) → Addable q (stepPool (stepOf d k j))
-      unfolding stepPoolAt
-      pool-addable q qe = rw qe (steps-addable (settledDay d) (settled-sized d a) k j l below)
-
-      pub pool-next : (q r : SidePool) → q ≡ poolTo j (stepPoolAt (settledDay d) k) → r ≡ poolSum q (stepPool (stepOf d k j)) → r ≡ poolTo (j + 1) (stepPoolAt (settledDay d) k)
-      unfolding stepPoolAt
-      pool-next q r qe re = re ∙ rw qe (sym (pool-more j (stepPoolAt (settledDay d) k)))
-
-      -- the money with this step
-      module _ (p : SidePool) (g : PoolFor (settledDay d) (side (lineAt d k)) p) (cl : ℕ) (ce : cl ≡ clawback d) where
-        pub step-payable : (x : Step) → x ≡ stepOf d k j → Payable x cl p
-        step-payable x xe = rw (xe, ce) (payable (settledDay d) (settled-sized d a) k j l below p g)
-
-        money-there : moneyOf (finalOn (stepOf d k j) cl p) ≡ stepMoney (settledDay d) k j
-        money-there = rw ce (step-money-is (settledDay d) k j p g)
-
-        pub money-addable : (q : Money) → q ≡ moneyTo j (stepMoney (settledDay d) k) → MoneyAddable q (moneyOf (finalOn (stepOf d k j) cl p))
-        money-addable q qe = rw (qe, money-there) (money-adds (settledDay d) (settled-sized d a) k j l below)
-
-        pub money-next : (q r : Money) → q ≡ moneyTo j (stepMoney (settledDay d) k) → r ≡ moneySum q (moneyOf (finalOn (stepOf d k j) cl p)) → r ≡ moneyTo (j + 1) (stepMoney (settledDay d) k)
-        money-next q r qe re = re ∙ rw (qe, money-there) (sym (money-more j (stepMoney (settledDay d) k)))
+      pub step-payable : (p : SidePool) → PoolFor (settledDay d) (side (lineAt d k)) p → (cl : ℕ) → cl ≡ clawback d → (x : Step) → x ≡ stepOf d k j → Payable x cl p
+      step-payable p g cl ce x xe = rw xe (payable-at j below p g cl ce)
 
 -- a side's part of a line
 pub part-other : (d v : List ℕ) (sd k x : ℕ) (r : SidePool) → v ≡ lineAt d k → x ≡ side v → (x ≡ sd → ⊥) → r ≡ noPool → r ≡ sidePart (settledDay d) sd k

@@ -4,3 +4,5 @@ pub mod Sides
 pub mod Sizes
 pub mod Lines
 pub mod Window
+pub mod Marks
+pub mod Passes

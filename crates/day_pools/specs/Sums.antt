@@ -1,14 +1,16 @@
 -- Rows of five, pools and money added up over the numbers below a count.
-use Prim.Native.Nat.{ℕ, zero, suc, _+_, _<_}
+use Prim.Native.Nat.{ℕ, zero, suc, _+_, _≤_, _<_}
+use native.Mathlib.Numerals.{add-one}
+use native.Mathlib.Decide.{decLt}
 use native.Mathlib.Omega.{arith}
-use mathlib.Core.Path.{_≡_, refl}
+use mathlib.Core.Path.{_≡_, refl, sym, _∙_, ap}
 use mathlib.Core.List.{List}
 use mathlib.Core.Bool.{Bool, true, false, _||_}
 use lib.Dec.{ltb}
 use lib.IntN.{ℤ}
 use borrow.Author.Tests.{lt-ltb, le-ltb, ltb-true, ltb-false}
 use Rattle.rules.specs.Fold.{sumTo, sumZ, someTo, five, at}
-use Rattle.laws.specs.Folds.{sum-more, sum-suc, sum-none, sumZ-none, sumZ-suc, some-none, some-suc, same-five}
+use Rattle.laws.specs.Folds.{sum-more, sum-suc, sum-none, sum-same, sumZ-none, sumZ-suc, some-none, some-suc, same-five}
 use Rattle.laws.specs.Ints.{Split, split-none, split-add}
 use Rattle.numbers.specs.Fives.{five-is}
 use Rattle.step_pool.specs.declared.pool_amounts.SidePool.{SidePool}
@@ -26,11 +28,17 @@ row-more : (n : ℕ) (f : ℕ → List ℕ) → five (rowTo (n + 1) f) ≡ five 
 unfolding rowTo sumIn placeOf
 row-more n f = same-five (sum-more n _) (sum-more n _) (sum-more n _) (sum-more n _) (sum-more n _)
 
-row-whole : (f : ℕ → ℕ) → five (sumIn (five f) (five (λ (s : ℕ). 0))) ≡ five f
+pub row-whole : (f : ℕ → ℕ) → five (sumIn (five f) (five (λ (s : ℕ). 0))) ≡ five f
 unfolding sumIn
 row-whole f =
     let e : (n : ℕ) → n + 0 ≡ n = λ n. omega arith in
     five-is f (e (f 0)) (e (f 1)) (e (f 2)) (e (f 3)) (e (f 4))
+
+pub row-same : (n : ℕ) (f g : ℕ → List ℕ) → ((i : ℕ) → f i ≡ g i) → five (rowTo n f) ≡ five (rowTo n g)
+unfolding rowTo placeOf
+row-same n f g h =
+    let e : (s : ℕ) → sumTo n (λ i. at (f i) s) ≡ sumTo n (λ i. at (g i) s) = λ s. sum-same n _ _ (λ i l. ap (λ (r : List ℕ). at r s) (h i)) in
+    same-five (e 0) (e 1) (e 2) (e 3) (e 4)
 
 -- pools
 unfoldable pub plusRows : (ℕ → SidePool) → ℕ → List ℕ
@@ -83,6 +91,27 @@ money-more n f = rw (row-more n (λ i. f i .plus), row-more n (λ i. f i .minus)
 pub money-whole : (n : ℕ) (f : ℕ → Money) (q : Money) → q ≡ moneyTo n f → moneySum q noMoney ≡ q
 unfolding moneyTo moneySum noMoney
 money-whole n f q e = rw (e, row-whole (rowTo n (paidOf f)), row-whole (rowTo n (takenOf f)))
+
+-- what adds nothing from place m on
+pub pool-rest : (m n : ℕ) (f : ℕ → SidePool) → m ≤ n → ((i : ℕ) → m ≤ i → i < n → f i ≡ noPool) → poolTo n f ≡ poolTo m f
+pool-rest m zero f l h = let e : m ≡ 0 = omega arith in rw e
+pool-rest m (suc n) f l h =
+    elim (decLt n m) [
+      | yes k ↦ let e : m ≡ suc n = omega arith in rw e
+      | no k ↦
+          let r = pool-rest m n f (omega arith) (λ i a b. h i a (omega arith)) in
+          ap (λ (i : ℕ). poolTo i f) (sym (add-one n)) ∙ pool-more n f ∙ ap (poolSum (poolTo n f)) (h n (omega arith) (omega arith)) ∙ pool-whole n f (poolTo n f) refl ∙ r
+    ]
+
+pub money-rest : (m n : ℕ) (f : ℕ → Money) → m ≤ n → ((i : ℕ) → m ≤ i → i < n → f i ≡ noMoney) → moneyTo n f ≡ moneyTo m f
+money-rest m zero f l h = let e : m ≡ 0 = omega arith in rw e
+money-rest m (suc n) f l h =
+    elim (decLt n m) [
+      | yes k ↦ let e : m ≡ suc n = omega arith in rw e
+      | no k ↦
+          let r = money-rest m n f (omega arith) (λ i a b. h i a (omega arith)) in
+          ap (λ (i : ℕ). moneyTo i f) (sym (add-one n)) ∙ money-more n f ∙ ap (moneySum (moneyTo n f)) (h n (omega arith) (omega arith)) ∙ money-whole n f (moneyTo n f) refl ∙ r
+    ]
 
 -- a signed sum by what is paid and what is taken back
 pub sum-split : (n : ℕ) (f : ℕ → ℤ) (p m : ℕ → ℕ) → ((i : ℕ) → i < n → Split (f i) (p i) (m i)) → Split (sumZ n f) (sumTo n p) (sumTo n m)

@@ -3,6 +3,7 @@ use crate::unused_slots::unused_number;
 use layout::bids::bid_price;
 use layout::bids::price_place;
 use layout::fields::side;
+use numbers::turned;
 use units::Price;
 use units::price_refusal;
 use units::price_value;
@@ -18,10 +19,7 @@ ghost use Rattle.line_bids.specs.Slots.{slotsFault};
 pub fn out_of_order(sd: u32, p: u32, q: u32) -> bool
     ensures { λ r. ⌜ r ≡ outOfOrder sd p q ⌝ }
 {
-    if sd == 1 {
-        return p < q;
-    }
-    q < p
+    turned(sd, q) < turned(sd, p)
 }
 
 // Refusal 9 at step j, whose price is q: the order.

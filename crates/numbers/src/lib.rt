@@ -1,11 +1,12 @@
-// Plain arithmetic that the other crates share: lesser and greater, saturating difference, wider numbers, 1 for a true test, a signed
-// difference, and a share t * d / b.
+// Plain arithmetic that the other crates share: lesser and greater, saturating difference, a price turned by the side, wider numbers,
+// 1 for a true test, a signed difference, and a share t * d / b.
 
 ghost use mathlib.Core.Path.{_≡_};
 ghost use Prim.Native.Nat.{_*_, _-_, _/_, _<_, _≤_, _^_, min, max};
 ghost use lib.IntN.{subℕ};
 ghost use Rattle.rules.specs.Fold.{five, at};
 ghost use Rattle.rules.specs.Payments as paper;
+ghost use Rattle.numbers.specs.Turned as law;
 
 pub fn lesser(a: u32, b: u32) -> u32
     ensures { λ r. ⌜ r ≡ min a b ⌝ }
@@ -24,6 +25,16 @@ pub fn saturating_sub(a: u32, b: u32) -> u32
     ensures { λ r. ⌜ r ≡ a - b ⌝ }
 {
     if b < a { a - b } else { 0 }
+}
+
+// A price as it is, or that of a withdrawal taken from the greatest word: the prices of both sides are then compared as an injection's.
+pub fn turned(side: u32, p: u32) -> u32
+    ensures { λ r. ⌜ r ≡ law.turned side p ⌝ }
+{
+    if side == 1 {
+        return 4294967295 - p;
+    }
+    p
 }
 
 pub fn lesser64(a: u64, b: u64) -> u64

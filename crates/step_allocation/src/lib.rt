@@ -3,6 +3,8 @@ use numbers::lesser;
 use numbers::saturating_sub;
 use rules::Step;
 ghost use mathlib.Core.Path.{_≡_};
+ghost use Rattle.rules.specs.Fold.{five, at};
+ghost use Rattle.rules.specs.Quantities.{allocated};
 ghost use Rattle.step_allocation.specs.Rows.{allocation, allocations, operatingAllocations, pricingAllocations, actualAllocation};
 
 // A quantity allocated to a step: what the step takes, and what no step of the line takes.
@@ -17,12 +19,32 @@ pub struct Allocations {
     pub excess: [u32; 5],
 }
 
+// What the step from l to u takes of q.
+pub fn taken(q: u32, l: u32, u: u32) -> u32
+    ensures { λ r. ⌜ r ≡ allocated q l u ⌝ }
+{
+    saturating_sub(lesser(q, u), l)
+}
+
+// What it takes of the totals q of the five schedules.
+pub fn taken_row(q: [u32; 5], l: u32, u: u32) -> [u32; 5]
+    ensures { λ r. ⌜ r ≡ five (λ s. allocated (at q s) l u) ⌝ }
+{
+    [
+        taken(q[0], l, u),
+        taken(q[1], l, u),
+        taken(q[2], l, u),
+        taken(q[3], l, u),
+        taken(q[4], l, u),
+    ]
+}
+
 // q on the step from l to u of a line whose steps end at `most`
 pub fn allocate(q: u32, l: u32, u: u32, most: u32) -> Allocation
     ensures { λ r. ⌜ r ≡ allocation q l u most ⌝ }
 {
     Allocation {
-        taken: saturating_sub(lesser(q, u), l),
+        taken: taken(q, l, u),
         excess: saturating_sub(q, most),
     }
 }

@@ -1,7 +1,7 @@
 // The rates at which changes of the quantity constrained on are paid (document 01, "Payments").
-use numbers::greater;
 use numbers::lesser;
 use numbers::saturating_sub;
+use numbers::turned;
 use rules::Step;
 ghost use mathlib.Core.Path.{_≡_};
 ghost use Rattle.rules.specs.Fold.{five};
@@ -12,20 +12,7 @@ ghost use Rattle.step_changes.specs.Changes.{revisedAt};
 fn beyond_by(side: u32, price: u32, market: u32) -> u32
     ensures { λ r. ⌜ r ≡ paper.beyondBy side price market ⌝ }
 {
-    if side == 1 {
-        return saturating_sub(market, price);
-    }
-    saturating_sub(price, market)
-}
-
-// The lesser of two prices, or the greater for a withdrawal.
-fn milder(side: u32, p: u32, q: u32) -> u32
-    ensures { λ r. ⌜ r ≡ paper.milder side p q ⌝ }
-{
-    if side == 1 {
-        return greater(p, q);
-    }
-    lesser(p, q)
+    saturating_sub(turned(side, price), turned(side, market))
 }
 
 // R
@@ -44,15 +31,25 @@ pub fn rates(x: Step) -> [u32; 5]
     ]
 }
 
-// The rates at which the matches of a fall are revised, where its own price and market price are `own` and `market`.
+// The rate at which the match of a fall with a rise at `price` is revised, where the fall's own price and market price are `own` and `market`.
+fn revised_rate(side: u32, price: u32, own: u32, market: u32) -> u32
+    ensures { λ r. ⌜ r ≡ paper.beyondBy side (paper.milder side price own) market ⌝ }
+{
+    saturating_sub(
+        lesser(turned(side, price), turned(side, own)),
+        turned(side, market),
+    )
+}
+
+// The same for a fall's matches with the rises of the five schedules.
 pub fn revised_rates(side: u32, price: [u32; 5], own: u32, market: u32) -> [u32; 5]
     ensures { λ r. ⌜ r ≡ five (revisedAt side price own market) ⌝ }
 {
     [
-        beyond_by(side, milder(side, price[0], own), market),
-        beyond_by(side, milder(side, price[1], own), market),
-        beyond_by(side, milder(side, price[2], own), market),
-        beyond_by(side, milder(side, price[3], own), market),
-        beyond_by(side, milder(side, price[4], own), market),
+        revised_rate(side, price[0], own, market),
+        revised_rate(side, price[1], own, market),
+        revised_rate(side, price[2], own, market),
+        revised_rate(side, price[3], own, market),
+        revised_rate(side, price[4], own, market),
     ]
 }

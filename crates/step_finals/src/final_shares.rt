@@ -4,14 +4,23 @@ use numbers::lesser64;
 use numbers::saturating_sub64;
 use numbers::share;
 use numbers::wide;
+use step_changes::rates::revised_rates;
+use step_payments::given_back::given_back;
 use step_pool::pool_amounts::SidePool;
 ghost use mathlib.Core.Path.{_≡_};
 ghost use mathlib.Core.Bool.{cond};
-ghost use Prim.Native.Nat.{ℕ, _-_, _<_};
+ghost use Prim.Native.Nat.{_-_, _<_, _^_};
 ghost use lib.Dec.{eqb};
-ghost use Rattle.rules.specs.Fold.{five, at};
-ghost use Rattle.step_payments.specs.Parts.{takenBack};
-ghost use Rattle.step_pool.specs.Amounts.{totalIn, baseIn, takenIn, Sharing};
+ghost use Rattle.rules.specs.Fold.{five};
+ghost use Rattle.step_changes.specs.Changes.{revisedAt};
+ghost use Rattle.step_payments.specs.Amounts.{givenAt};
+ghost use Rattle.step_pool.specs.Amounts.{totalIn, baseIn, finalTaken, Sharing};
+
+// T (0 where it isn't above 0 or nothing differs) and B of a side, by schedule.
+pub struct Shares {
+    pub total: [u64; 5],
+    pub base: [u64; 5],
+}
 
 // T of a schedule, or 0 where it isn't above 0 or nothing differs.
 fn shared_total(plus: u64, minus: u64, differs: u64) -> u64
@@ -53,83 +62,43 @@ pub fn bases(p: SidePool) -> [u64; 5]
     ]
 }
 
-// What the final payment takes back in a schedule after the first.
-fn taken_back(
-    claw: u32,
+// T and B of a side's pool, worked out once for all its steps.
+pub fn shares_of(p: SidePool) -> Shares
+    ensures { λ r. ⌜ (r .total ≡ five (totalIn p)) × (r .base ≡ five (baseIn p)) ⌝ }
+{
+    Shares {
+        total: shared_totals(p),
+        base: bases(p),
+    }
+}
+
+// What the final payment takes back in a schedule after the first with clawback on: from the flag, what the initial payment takes back,
+// the side, the prices, the schedule's own price and market price, its matches, the rates, its fall, T and B.
+pub fn taken_in(
     flag: u32,
     initial: u64,
-    revised: u64,
-    modified: u64,
+    side: u32,
+    price: [u32; 5],
+    own: u32,
+    market: u32,
+    m: [u32; 5],
+    rate: [u32; 5],
     fall: u32,
     total: u64,
     base: u64,
 ) -> u64
-    requires { ⌜ Sharing initial revised fall total base ⌝ }
-    ensures { λ r. ⌜ r ≡ takenBack claw flag initial revised modified fall total base ⌝ }
+    requires { ⌜ (Sharing initial (givenAt m (five (revisedAt side price own market))) fall total base) × (givenAt m rate < 2 ^ 64) ⌝ }
+    ensures { λ r. ⌜ r ≡ finalTaken flag initial (givenAt m (five (revisedAt side price own market))) (givenAt m rate) fall total base ⌝ }
 {
-    if claw == 0 {
-        return initial;
+    if initial == 0 {
+        return 0;
     }
     if flag == 1 {
-        return modified;
+        return given_back(m, rate);
     }
+    let revised = given_back(m, revised_rates(side, price, own, market));
     if total == 0 {
         return revised;
     }
-    if initial == 0 {
-        return revised;
-    }
     lesser64(initial, revised + share(total, wide(fall), base))
-}
-
-// What the final payment takes back in schedule s.
-fn taken_in(
-    s: usize,
-    claw: u32,
-    flag: [u32; 5],
-    initial: [u64; 5],
-    revised: [u64; 5],
-    modified: [u64; 5],
-    fall: [u32; 5],
-    total: [u64; 5],
-    base: [u64; 5],
-) -> u64
-    requires { ⌜ (s < 5) × (Sharing (at initial s) (at revised s) (at fall s) (at total s) (at base s)) ⌝ }
-    ensures { λ r. ⌜ r ≡ takenIn claw flag initial revised modified fall total base s ⌝ }
-{
-    if s == 0 {
-        return initial[s];
-    }
-    taken_back(
-        claw,
-        flag[s],
-        initial[s],
-        revised[s],
-        modified[s],
-        fall[s],
-        total[s],
-        base[s],
-    )
-}
-
-pub fn final_minus(
-    claw: u32,
-    flag: [u32; 5],
-    initial: [u64; 5],
-    revised: [u64; 5],
-    modified: [u64; 5],
-    fall: [u32; 5],
-    total: [u64; 5],
-    base: [u64; 5],
-) -> [u64; 5]
-    requires { ⌜ ((s : ℕ) → s < 5 → Sharing (at initial s) (at revised s) (at fall s) (at total s) (at base s)) ⌝ }
-    ensures { λ r. ⌜ r ≡ five (takenIn claw flag initial revised modified fall total base) ⌝ }
-{
-    [
-        taken_in(0, claw, flag, initial, revised, modified, fall, total, base),
-        taken_in(1, claw, flag, initial, revised, modified, fall, total, base),
-        taken_in(2, claw, flag, initial, revised, modified, fall, total, base),
-        taken_in(3, claw, flag, initial, revised, modified, fall, total, base),
-        taken_in(4, claw, flag, initial, revised, modified, fall, total, base),
-    ]
 }

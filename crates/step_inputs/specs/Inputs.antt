@@ -5,11 +5,15 @@ use mathlib.Core.List.{List}
 use Rattle.rules.specs.Fold.{five}
 use Rattle.rules.specs.Layout as layout
 use Rattle.rules.specs.Quantities.{pricingTotal, tableTotal, tableActual}
-use Rattle.rules.specs.Steps.{greatestBreak, stepCount, lowerEnd}
+use Rattle.rules.specs.Steps.{greatestBreak, stepCount, upperEnd, lowerEnd}
 use Rattle.rules.specs.InForce.{tableInForce}
 use Rattle.rules.specs.Cutting.{cutOf}
 use Rattle.rules.specs.declared.Step.{Step}
 use Rattle.laws.specs.Accepted.{AcceptedLine}
+use Rattle.cutter_cursors.specs.Sweep.{SweepAt}
+use Rattle.cutter_cursors.specs.declared.cursors.Sweep.{Sweep}
+use Rattle.cutter_prices.specs.Step.{slotsOf}
+use Rattle.cutter_prices.specs.declared.Slots.{Slots}
 use Rattle.step_inputs.specs.declared.inputs.Market.{Market}
 use Rattle.step_inputs.specs.declared.inputs.LineTotals.{LineTotals}
 use Rattle.step_terms.specs.Terms.{cappedIn, accreditedIn, paidRow}
@@ -62,3 +66,14 @@ pub record StepReady (d : List ℕ) (k : ℕ) (m : Market) (t : LineTotals) (es 
   pub prices : ps ≡ cutOf (layout.lineAt d k) .prices
   pub flags : fs ≡ cutOf (layout.lineAt d k) .flags
   pub lower : lo ≡ lowerEnd (layout.lineAt d k) j
+
+-- what a step is put together from where the sweep stands: step j of line k of the day d, whose bytes are w, past the hedge
+pub record StepHere (d : List ℕ) (k : ℕ) (w : List ℕ) (m : Market) (t : LineTotals) (slots : Slots) (places : Sweep) (lo up j : ℕ) : Type 0 where
+  pub line : w ≡ layout.lineAt d k
+  pub market : m ≡ marketOf d
+  pub totals : t ≡ totalsOf (tableInForce d k) w
+  pub prices : slots ≡ slotsOf w
+  pub here : SweepAt w places up
+  pub lower : lo ≡ lowerEnd w j
+  pub upper : up ≡ upperEnd w j
+  pub past : layout.hedge w < up

@@ -36,7 +36,7 @@ marks-by true f = simp both-none
 marks-by false f = simp both-all
 
 -- the parts of `stepOf`, with the cutter's rows
-step-parts : (d : List ℕ) (k j : ℕ) (p f : List ℕ)
+pub step-parts : (d : List ℕ) (k j : ℕ) (p f : List ℕ)
     → p ≡ five (λ s. price (lineAt d k) s (upperEnd (lineAt d k) j)) → f ≡ five (λ s. flag (lineAt d k) s (upperEnd (lineAt d k) j))
     → stepWith (marketOf d) (totalsOf (tableInForce d k) (lineAt d k)) (lowerEnd (lineAt d k) j) (upperEnd (lineAt d k) j) p f ≡ stepOf d k j
 unfolding stepWith marketOf totalsOf cappedIn cappedAt paidRow accreditedIn stepOf capped paid accredited hedged

@@ -1,6 +1,9 @@
 // What one step is worked out from: the market table, a line's totals and the cut step, put together as a `Step`.
 use cutter::read_step::flag_row;
 use cutter::read_step::price_row;
+use cutter_cursors::cursors::Sweep;
+use cutter_prices::Slots;
+use cutter_prices::step_rows;
 use layout::fields::accreditation;
 use layout::fields::hedge;
 use layout::fields::side;
@@ -23,7 +26,7 @@ ghost use lib.ListN.{length};
 ghost use Rattle.rules.specs.Fold.{five, at};
 ghost use Rattle.rules.specs.Refusals.{lineFaultWith};
 ghost use Rattle.rules.specs.Days.{stepOf};
-ghost use Rattle.step_inputs.specs.Inputs.{marketOf, totalsOf, stepWith, StepReady};
+ghost use Rattle.step_inputs.specs.Inputs.{marketOf, totalsOf, stepWith, StepReady, StepHere};
 
 // The market table.
 pub struct Market {
@@ -144,4 +147,58 @@ pub fn step_at(
 {
     let upper = ends[j];
     step_of(m, t, lower, upper, price_row(prices, j), flag_row(flags, j))
+}
+
+// A step that ends past the hedge: it is paid in each schedule in which its line is accredited.
+fn unhedged_step(
+    m: Market,
+    t: LineTotals,
+    lower: u32,
+    upper: u32,
+    price: [u32; 5],
+    flag: [u32; 5],
+) -> Step
+    requires { ⌜ t .hedge < upper ⌝ }
+    ensures { λ r. ⌜ r ≡ stepWith m t lower upper price flag ⌝ }
+{
+    let mark = m.mark;
+    let market = m.price;
+    let accredited = t.accredited;
+    let pricing = t.pricing;
+    let operating = t.operating;
+    Step {
+        side: t.side,
+        lower,
+        upper,
+        price: capped_row(mark, m.cap, price),
+        flag,
+        market,
+        paid: accredited,
+        pricing,
+        operating,
+        actual: t.actual,
+        most: t.most,
+    }
+}
+
+// Step j of line k, past the hedge, where the sweep over the line stands; `line` is the line's bytes, and those of the day are not read.
+pub fn step_here(
+    day: &[u8],
+    k: usize,
+    line: &[u8],
+    m: Market,
+    t: LineTotals,
+    slots: Slots,
+    places: Sweep,
+    lower: u32,
+    upper: u32,
+    j: usize,
+) -> Step
+    requires { ⌜ StepHere (now day) k (now line) m t slots places lower upper j ⌝ }
+    ensures { λ r. ⌜ r ≡ stepOf (now (day .entry)) k j ⌝ }
+{
+    let rows = step_rows(line, slots, places, upper);
+    let price = rows.price;
+    let flag = rows.flag;
+    unhedged_step(m, t, lower, upper, price, flag)
 }

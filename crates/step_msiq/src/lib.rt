@@ -1,5 +1,6 @@
 // MSIQ of a step, from the last schedule back (document 01, "Quantities").
 use numbers::lesser;
+use numbers::turned;
 ghost use mathlib.Core.Path.{_≡_};
 ghost use mathlib.Core.Bool.{cond};
 ghost use Prim.Native.Nat.{_<_, min};
@@ -10,10 +11,7 @@ ghost use Rattle.rules.specs.Quantities as rule;
 pub fn beyond(side: u32, price: u32, market: u32) -> bool
     ensures { λ r. ⌜ r ≡ rule.beyond side price market ⌝ }
 {
-    if side == 1 {
-        return price < market;
-    }
-    market < price
+    turned(side, market) < turned(side, price)
 }
 
 // MSIQ of a schedule, where that of the next one is `next`.

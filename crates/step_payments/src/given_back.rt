@@ -10,11 +10,11 @@ ghost use Rattle.rules.specs.Fold.{five};
 ghost use Rattle.rules.specs.Payments as paper;
 ghost use Rattle.step_matching.specs.Ledgers.{matchRow};
 ghost use Rattle.step_payments.specs.Sizes.{Sized};
-ghost use Rattle.step_payments.specs.Amounts.{givenAt, minusOf};
+ghost use Rattle.step_payments.specs.Amounts.{givenAt, RevisedFits, revisedIn, minusOf};
 ghost use Rattle.step_changes.specs.Changes.{revisedAt};
 
 // What the matches of one schedule give back at these rates.
-fn given_back(m: [u32; 5], rate: [u32; 5]) -> u64
+pub fn given_back(m: [u32; 5], rate: [u32; 5]) -> u64
     requires { ⌜ givenAt m rate < 2 ^ 64 ⌝ }
     ensures { λ r. ⌜ r ≡ givenAt m rate ⌝ }
 {
@@ -36,14 +36,17 @@ fn revised_back(initial: u64, side: u32, price: [u32; 5], own: u32, market: u32,
     given_back(m, revised_rates(side, price, own, market))
 }
 
-// What the revised payments take back, from the match table and what the initial payments take back.
-pub fn revised_minus(x: Step, t: [[u32; 5]; 5], initial: [u64; 5]) -> [u64; 5]
-    requires { ⌜ (Sized x) × (t ≡ five (matchRow (paper.onStep x))) × (initial ≡ five (minusOf (paper.initial x))) ⌝ }
-    ensures { λ r. ⌜ r ≡ five (minusOf (paper.revised x)) ⌝ }
+// What the revised payments take back, from the side, prices and market prices of a step, the match table and what the initial payments take back.
+pub fn revised_rows(
+    side: u32,
+    price: [u32; 5],
+    market: [u32; 5],
+    t: [[u32; 5]; 5],
+    initial: [u64; 5],
+) -> [u64; 5]
+    requires { ⌜ RevisedFits side price market t ⌝ }
+    ensures { λ r. ⌜ r ≡ five (revisedIn side price market t initial) ⌝ }
 {
-    let side = x.side;
-    let price = x.price;
-    let market = x.market;
     [
         0,
         revised_back(initial[1], side, price, price[1], market[1], t[1]),
@@ -51,6 +54,16 @@ pub fn revised_minus(x: Step, t: [[u32; 5]; 5], initial: [u64; 5]) -> [u64; 5]
         revised_back(initial[3], side, price, price[3], market[3], t[3]),
         revised_back(initial[4], side, price, price[4], market[4], t[4]),
     ]
+}
+
+// The same of a step.
+pub fn revised_minus(x: Step, t: [[u32; 5]; 5], initial: [u64; 5]) -> [u64; 5]
+    requires { ⌜ (Sized x) × (t ≡ five (matchRow (paper.onStep x))) × (initial ≡ five (minusOf (paper.initial x))) ⌝ }
+    ensures { λ r. ⌜ r ≡ five (minusOf (paper.revised x)) ⌝ }
+{
+    let price = x.price;
+    let market = x.market;
+    revised_rows(x.side, price, market, t, initial)
 }
 
 fn given_if_taken(initial: u64, m: [u32; 5], rate: [u32; 5]) -> u64

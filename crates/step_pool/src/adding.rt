@@ -1,17 +1,18 @@
 // What a step adds to its side's pool (document 01, "Payments"): what its revised payments pay and take back, and its part of B; and the
 // sum of two pools.
 use crate::pool_amounts::Changes;
+use crate::pool_amounts::PoolStep;
 use crate::pool_amounts::SidePool;
 use crate::skipped_steps::all_zero;
 use crate::skipped_steps::changes_on;
-use crate::skipped_steps::unpaid;
+use crate::skipped_steps::most;
 use numbers::bit;
 use numbers::wide;
 use numbers::widened;
 use rules::Step;
 use step_changes::rates::rates;
 use step_matching::matches::match_table;
-use step_payments::given_back::revised_minus;
+use step_payments::given_back::revised_rows;
 use step_quantities::constrained::constrained_on;
 ghost use mathlib.Core.Path.{_≡_};
 ghost use mathlib.Core.Bool.{not};
@@ -20,7 +21,7 @@ ghost use lib.Dec.{eqb};
 ghost use Rattle.rules.specs.Fold.{five};
 ghost use Rattle.rules.specs.Payments as paper;
 ghost use Rattle.step_payments.specs.Sizes.{Sized};
-ghost use Rattle.step_pool.specs.Amounts.{sumIn, differIn, stepPool, noPool, changesOn, poolSum, Kept, Addable};
+ghost use Rattle.step_pool.specs.Amounts.{sumIn, differIn, stepPool, noPool, changesOn, poolSum, Kept, Addable, takesBack};
 
 // 1 where two numbers differ.
 fn differ(a: u64, b: u64) -> u64
@@ -68,7 +69,9 @@ fn full_pool(x: Step, c: [u32; 5], v: Changes) -> SidePool
     let initial = v.minus;
     let rise = v.rises;
     let fall = v.falls;
-    let minus = revised_minus(x, match_table(c), initial);
+    let price = x.price;
+    let market = x.market;
+    let minus = revised_rows(x.side, price, market, match_table(c), initial);
     SidePool {
         plus: plus,
         minus: minus,
@@ -116,19 +119,26 @@ pub fn pool_add(a: SidePool, b: SidePool) -> SidePool
     }
 }
 
-// A pool with one step more. An unpaid step adds nothing; most others take nothing back, and need no matches.
-pub fn pool_with(p: SidePool, x: Step) -> SidePool
+// A pool with one step more, and 1 where an initial payment of the step takes something back. A step whose C are all 0 adds nothing; most
+// others take nothing back, and need no matches.
+pub fn pool_with(p: SidePool, x: Step) -> PoolStep
     requires { ⌜ (Sized x) × (Addable p (stepPool x)) × (poolSum p noPool ≡ p) ⌝ }
-    ensures { λ r. ⌜ r ≡ poolSum p (stepPool x) ⌝ }
+    ensures { λ r. ⌜ (r .pool ≡ poolSum p (stepPool x)) × (r .takes ≡ takesBack x) ⌝ }
 {
-    if unpaid(x) {
-        return p;
-    }
     let c = constrained_on(x);
+    if most(c) == 0 {
+        return PoolStep { pool: p, takes: 0 };
+    }
     let v = changes_on(x, c, rates(x));
     let minus = v.minus;
     if all_zero(minus) {
-        return pool_add(p, kept_pool(x, v));
+        return PoolStep {
+            pool: pool_add(p, kept_pool(x, v)),
+            takes: 0,
+        };
     }
-    pool_add(p, full_pool(x, c, v))
+    PoolStep {
+        pool: pool_add(p, full_pool(x, c, v)),
+        takes: 1,
+    }
 }

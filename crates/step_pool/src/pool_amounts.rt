@@ -19,3 +19,9 @@ pub struct Changes {
     pub plus: [u64; 5],
     pub minus: [u64; 5],
 }
+
+// A pool with a step more, and 1 where an initial payment of that step takes something back.
+pub struct PoolStep {
+    pub pool: SidePool,
+    pub takes: u64,
+}

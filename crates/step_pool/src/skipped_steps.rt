@@ -44,14 +44,6 @@ pub fn most(q: [u32; 5]) -> u32
     greater(c, q[4])
 }
 
-// Whether no schedule pays the step.
-pub fn unpaid(x: Step) -> bool
-    ensures { λ r. ⌜ r ≡ allZero (x .paid) ⌝ }
-{
-    let marks = x.paid;
-    most(marks) == 0
-}
-
 // From C and R.
 pub fn changes_on(x: Step, c: [u32; 5], rate: [u32; 5]) -> Changes
     requires { ⌜ (c ≡ paper.onStep x) × (rate ≡ five (paper.rate x)) ⌝ }

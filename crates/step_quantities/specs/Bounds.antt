@@ -1,25 +1,24 @@
 -- AGINO(s) is at most O(s), MSIQ(s) at most E(s), C(s) at most O(s), and each of a step's quantities at most its upper end.
 use Prim.Native.Nat.{ℕ, zero, suc, _-_, _≤_, _<_, min}
 use native.Mathlib.Omega.{arith}
+use mathlib.Core.Path.{_≡_}
 use mathlib.Core.List.{List}
 use mathlib.Core.Bool.{Bool, true, false, cond}
 use Rattle.rules.specs.Fold.{five, at}
-use Rattle.rules.specs.Quantities.{allocated, leastFrom, lastAgino, agino, beyond, msiqFrom, msiq, constrained}
+use Rattle.rules.specs.Quantities.{allocated, lastAgino, agino, beyond, msiqFrom, msiq, constrained}
 use Rattle.rules.specs.Payments.{operatingOn, pricingOn, actualOn, aginoOn, msiqOn, constrainedOn, onStep}
 use Rattle.rules.specs.declared.Step.{Step}
 use Rattle.laws.specs.Folds.{at-five}
+use Rattle.laws.specs.Chains.{least-most}
 use Rattle.numbers.specs.Fives.{five-most}
-
--- the least of O(s) and later ones
-pub least-most : (o : List ℕ) (s m : ℕ) → leastFrom o s m ≤ at o s
-unfolding leastFrom
-least-most o s zero = omega arith
-least-most o s (suc m) = omega arith
 
 -- AGINO(s) ≤ O(s)
 pub agino-most : (o : List ℕ) (a s : ℕ) → agino o a s ≤ at o s
 unfolding agino lastAgino
 agino-most o a s = omega (arith, least-most o s (4 - s))
+
+pub agino-row : (o g : List ℕ) (a : ℕ) → g ≡ five (agino o a) → (s : ℕ) → s < 5 → at g s ≤ at o s
+agino-row o g a e s h = rw (e, at-five (agino o a) 0 s h) (agino-most o a s)
 
 -- MSIQ(s) ≤ E(s)
 most-by : (t : Bool) (e n : ℕ) → cond t e (min e n) ≤ e

@@ -7,9 +7,11 @@ use step_agino::agino;
 use step_allocation::actual_on;
 use step_allocation::operating_on;
 use step_allocation::pricing_on;
+use step_allocation::taken;
+use step_allocation::taken_row;
 use step_msiq::msiq;
 ghost use mathlib.Core.Path.{_≡_};
-ghost use Prim.Native.Nat.{_-_, _<_};
+ghost use Prim.Native.Nat.{ℕ, _-_, _≤_, _<_};
 ghost use Rattle.rules.specs.Fold.{five, at};
 ghost use Rattle.rules.specs.Quantities as rule;
 ghost use Rattle.rules.specs.Payments as paper;
@@ -31,14 +33,15 @@ pub struct StepQuantities {
 
 // C of a schedule
 fn constrained_in(o: [u32; 5], g: [u32; 5], q: [u32; 5], s: usize) -> u32
-    requires { ⌜ s < 5 ⌝ }
+    requires { ⌜ (s < 5) × (at g s ≤ at o s) ⌝ }
     ensures { λ r. ⌜ r ≡ at o s - at g s - at q s ⌝ }
 {
-    saturating_sub(saturating_sub(o[s], g[s]), q[s])
+    saturating_sub(o[s] - g[s], q[s])
 }
 
-// C, from O, AGINO and MSIQ
+// C, from O, AGINO, which is at most O, and MSIQ
 pub fn constrained(o: [u32; 5], g: [u32; 5], q: [u32; 5]) -> [u32; 5]
+    requires { ⌜ ((s : ℕ) → s < 5 → at g s ≤ at o s) ⌝ }
     ensures { λ r. ⌜ r ≡ five (rule.constrained o g q) ⌝ }
 {
     [
@@ -80,9 +83,16 @@ pub fn quantities_on(x: Step) -> StepQuantities
     }
 }
 
-// C of a step
+// C of a step, where its other quantities and the excess are not asked for.
 pub fn constrained_on(x: Step) -> [u32; 5]
     ensures { λ r. ⌜ r ≡ paper.onStep x ⌝ }
 {
-    quantities_on(x).constrained
+    let operating = x.operating;
+    let pricing = x.pricing;
+    let price = x.price;
+    let market = x.market;
+    let o = taken_row(operating, x.lower, x.upper);
+    let e = taken_row(pricing, x.lower, x.upper);
+    let g = agino(o, taken(x.actual, x.lower, x.upper));
+    constrained(o, g, msiq(x.side, price, market, e))
 }

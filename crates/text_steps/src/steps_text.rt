@@ -6,6 +6,7 @@ use layout::fields::point;
 use layout::fields::side;
 use layout::header::line_count;
 use layout::header::line_of;
+use rules::View;
 use text::digits::put_byte;
 use text::digits::put_bytes;
 use text::digits::put_decimal;
@@ -14,29 +15,30 @@ use text_lines::put_ids;
 use text_lines::put_side_steps;
 use text_view::put_excess;
 use text_view::put_view;
-use view::view;
+use view::line_views::accepted_views;
+use view::refused;
 ghost use mathlib.Core.Path.{_≡_};
 ghost use Prim.Native.Nat.{_+_, _*_, _≤_, _<_};
 ghost use lib.ListN.{length};
 ghost use Rattle.rules.specs.Fold.{joined};
 ghost use Rattle.rules.specs.Layout.{lineCount};
 ghost use Rattle.rules.specs.Steps.{stepCount};
-ghost use Rattle.laws.specs.Accepted.{AcceptedDay};
+ghost use Rattle.rules.specs.Refusals.{dayFault};
 ghost use Rattle.text.specs.Put.{Written};
-ghost use Rattle.text_steps.specs.Text.{stepText, lineHead, lineSteps, partOf};
+ghost use Rattle.text_steps.specs.Text.{placeText, lineHead, lineSteps, partOf};
 
 // The bytes that the longest part takes: a line's heading, 56 steps and the excess.
 pub const PART_MOST: usize = 93 + 56 * 1587 + 263;
 
-// The first `count` steps of line k. The loop maintains that the first j are put.
-fn put_steps(out: &mut [u8], at: usize, day: &[u8], k: usize, count: usize) -> usize
-    requires { ⌜ at + 1587 * count ≤ length (now out) ⌝ }
-    ensures { λ r. ⌜ Written (1587 * count) (now (out .entry)) at (joined count (stepText (now (day .entry)) k)) r (now (out .exit)) ⌝ }
+// The first `count` of the lent views, as steps. The loop maintains that the first j are put.
+fn put_steps(out: &mut [u8], at: usize, views: [View; 56], count: usize) -> usize
+    requires { ⌜ (count ≤ 56) × (at + 1587 * count ≤ length (now out)) ⌝ }
+    ensures { λ r. ⌜ Written (1587 * count) (now (out .entry)) at (joined count (placeText views)) r (now (out .exit)) ⌝ }
 {
     let mut p = at;
     let mut j = 0;
     while j < count {
-        p = put_view(out, p, j, view(day, k, j));
+        p = put_view(out, p, j, views[j]);
         j += 1;
     }
     p
@@ -57,15 +59,18 @@ fn put_line_head(out: &mut [u8], at: usize, k: usize, line: &[u8], count: u32) -
 
 // Line k, all its steps and its excess, which the view of each step has.
 fn put_line(out: &mut [u8], at: usize, day: &[u8], k: usize) -> usize
-    requires { ⌜ (AcceptedDay (now day)) × (k < lineCount (now day)) × (at + 89228 ≤ length (now out)) ⌝ }
+    requires { ⌜ (dayFault (now day) ≡ 0) × (k < lineCount (now day)) × (at + 89228 ≤ length (now out)) ⌝ }
     ensures { λ r. ⌜ Written 89228 (now (out .entry)) at (lineSteps (now (day .entry)) k) r (now (out .exit)) ⌝ }
 {
     let line = line_of(day, k);
-    let count = cutter::steps::steps(line).count;
-    let a = put_line_head(out, at, k, line, count);
-    let b = put_steps(out, a, day, k, count as usize);
-    let v = view(day, k, 0);
-    let excess = v.excess;
+    let none = refused(0);
+    let answer = accepted_views(day, k, [none; 56]);
+    let views = answer.views;
+    let count = answer.count;
+    let a = put_line_head(out, at, k, line, count as u32);
+    let b = put_steps(out, a, views, count);
+    let first = views[0];
+    let excess = first.excess;
     put_excess(out, b, excess)
 }
 
@@ -93,19 +98,26 @@ pub fn part(day: &[u8], k: usize, out: &mut [u8]) -> usize
     put_line(out, 0, day, k)
 }
 
-// Prints the 64 parts, which are the whole text, by way of the lent bytes. The first k are printed after k turns, which no contract can
-// say.
-fn print_parts(day: &[u8], out: &mut [u8]) {
+// Prints the lines of an accepted day by way of the lent bytes. The first k are printed after k turns, which no contract can say.
+fn print_lines(day: &[u8], out: &mut [u8])
+    requires { ⌜ (dayFault (now day) ≡ 0) × (89228 ≤ length (now out)) ⌝ }
+{
+    let n = line_count(day);
     let mut k = 0;
-    while k < 64 {
-        let end = part(day, k, out);
+    while k < n {
+        let end = put_line(out, 0, day, k);
         io::write_all(libc::STDOUT_FILENO, &out[..end]);
         k += 1;
     }
 }
 
-// Prints the text of a day on standard output.
+// Prints the text of a day on standard output: of a refused day its part 0, which is the refusal, else its lines. The day is checked once.
 pub fn print(day: &[u8]) {
     let mut out = [0u8; PART_MOST];
-    print_parts(day, &mut out)
+    if day_number(day) != 0 {
+        let end = part(day, 0, &mut out);
+        io::write_all(libc::STDOUT_FILENO, &out[..end]);
+        return;
+    }
+    print_lines(day, &mut out)
 }

@@ -1,2 +1,3 @@
--- All figures of a step from the step, the clawback switch and its side's pool.
+-- All figures of a step from the step, the clawback switch and its side's pool (Figures); the views of all steps of a line (LineViews).
 pub mod Figures
+pub mod LineViews

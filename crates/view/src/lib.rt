@@ -1,7 +1,8 @@
-// The step view: every figure of one step of a day (document 01, "Totals and book").
+// The step view: every figure of one step of a day (document 01, "Totals and book"), and of all steps of a line.
 mod figures;
+pub mod line_views;
 
-use crate::figures::figures;
+use crate::figures::step_view;
 use day::day_number;
 use day_pools::pool_for;
 use layout::header::line_count;
@@ -10,7 +11,6 @@ use line_quantities::in_force::day_table;
 use rules::Excess;
 use rules::View;
 use step_inputs::inputs::market_of;
-use step_inputs::inputs::step_at;
 use step_inputs::inputs::totals_of;
 ghost use mathlib.Core.Path.{_≡_};
 ghost use Prim.Native.Nat.{_<_};
@@ -19,7 +19,7 @@ ghost use lib.ListN.{getD};
 ghost use Rattle.rules.specs.Viewing.{viewRefused, viewAnswer};
 
 // A refused view: the number and zeros.
-fn refused(number: u32) -> View
+pub fn refused(number: u32) -> View
     ensures { λ r. ⌜ r ≡ viewRefused number ⌝ }
 {
     View {
@@ -80,7 +80,8 @@ pub fn view(day: &[u8], line: usize, step: usize) -> View
     let flags = cut.flags;
     let m = market_of(day);
     let t = totals_of(part, day_table(day, line, part));
-    let x = step_at(
+    let p = pool_for(day, m, t.side);
+    step_view(
         day,
         line,
         m,
@@ -90,7 +91,6 @@ pub fn view(day: &[u8], line: usize, step: usize) -> View
         flags,
         lower_end(&ends, step),
         step,
-    );
-    let p = pool_for(day, m, x.side);
-    figures(x, m.clawback, p)
+        p,
+    )
 }

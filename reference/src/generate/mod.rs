@@ -12,7 +12,7 @@ mod faults;
 mod line_faults;
 mod pulled;
 mod pulled_faults;
-mod random;
+pub mod random;
 mod sets;
 mod uplift;
 mod uplift_faults;

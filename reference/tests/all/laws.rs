@@ -6,7 +6,7 @@ use reference::layout::*;
 use reference::line_part::line_part;
 use reference::matching::pair;
 use reference::quantities::{effective_actual, operating_totals, pricing_totals};
-use reference::view::{view, DayView, View};
+use reference::view::{line_views, view, DayView, LineViews, View};
 
 #[test]
 fn steps_and_quantities_add_up() {
@@ -109,15 +109,18 @@ fn book_balances() {
     }
 }
 
-/// The view asked step by step is the one that goes through the day once.
+/// The view asked step by step is the one that goes through the day once, and that of all steps of a line.
 #[test]
 fn one_view_and_all_views() {
     for day in law_days().filter(|day| line_count(day) < 8) {
         let views = DayView::new(&day);
         for (k, line) in views.day.lines().enumerate() {
-            for (j, step) in views.line(line).enumerate() {
-                assert_eq!(view(&day, k as u64, j as u64), step);
-            }
+            let steps: Vec<View> = views.line(line).collect();
+            let asked = (0..steps.len()).map(|j| view(&day, k as u64, j as u64));
+            assert!(asked.eq(steps.iter().cloned()));
+            assert_eq!(view(&day, k as u64, steps.len() as u64).number, 17);
+            let (number, views) = (0, steps);
+            assert_eq!(line_views(&day, k as u64), LineViews { number, views });
         }
     }
 }

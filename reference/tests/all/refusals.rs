@@ -13,7 +13,7 @@ use reference::line_part::line_part;
 use reference::refusal::*;
 use reference::settle::settle;
 use reference::table1;
-use reference::view::{view, View};
+use reference::view::{line_views, view, LineViews, View};
 use std::collections::BTreeSet;
 
 #[test]
@@ -248,6 +248,25 @@ fn view_refusals() {
         let number = day_number(&day);
         if number != 0 {
             assert_eq!(view(&day, u64::MAX, u64::MAX), refused(number));
+        }
+    }
+}
+
+/// Refused as the view of the line's first step is, since every line of a day without fault has one.
+#[test]
+fn line_views_refusals() {
+    let refused = |number| LineViews {
+        number,
+        ..LineViews::default()
+    };
+    let day = table1::day();
+    for line in [1, 64, 1 << 32, u64::MAX] {
+        assert_eq!(line_views(&day, line), refused(16));
+    }
+    for day in (0..300).map(damaged_day) {
+        let number = day_number(&day);
+        for line in [0, u64::MAX].into_iter().filter(|_| number != 0) {
+            assert_eq!(line_views(&day, line), refused(number));
         }
     }
 }

@@ -76,7 +76,7 @@ module _ (w : List ℕ) (h : AcceptedLine w) where
   unfolding stepCount lowerEnd upperEnd
   end-rises n l = rises-at (ends-rise w h) n l
 
-  lower-limit : (n : ℕ) → n ≤ stepCount w → lowerEnd w n ≤ quantityMost
+  pub lower-limit : (n : ℕ) → n ≤ stepCount w → lowerEnd w n ≤ quantityMost
   unfolding lowerEnd
   lower-limit zero l = omega arith
   lower-limit (suc n) l = unfold upperEnd in end-limit n l

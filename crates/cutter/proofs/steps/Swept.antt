@@ -8,7 +8,6 @@ use lib.ListN.{length, getD, take, set, replicate, length-take}
 use lib.Seq.{take-all}
 use lib.Count.{ones}
 use Rattle.rules.specs.Fold.{padded, joined, sumOf, five}
-use Rattle.rules.specs.Layout.{quantityMost}
 use Rattle.rules.specs.Steps.{ends, stepCount, upperEnd, lowerEnd, price, flag}
 use Rattle.rules.specs.Cutting.{prices, flags, flagWord, missing, priceRow, cutOf}
 use Rattle.rules.specs.declared.Cut.{Cut}
@@ -17,12 +16,12 @@ use Rattle.cutter.specs.Lists.{rises-mono}
 use Rattle.cutter.specs.Ends.{ends-rise, count-most}
 use Rattle.cutter.specs.Prices.{flag-stays, prices-length, prices-at, flags-length, flags-at, flags-most}
 use Rattle.cutter.specs.Arrays.{padded-length}
-use Rattle.cutter_cursors.specs.Sweep.{Line, SweepAt, firstPlaces, far, nextGap}
-use Rattle.cutter_cursors.specs.Places.{first-places}
+use Rattle.cutter_cursors.specs.Sweep.{Line, SweepAt, far, nextGap}
 use Rattle.cutter_cursors.specs.declared.cursors.Sweep.{Sweep}
 use Rattle.cutter_prices.specs.Step.{pricesPut, MissingMost, missingWith, runWord}
 use Rattle.cutter_prices.specs.declared.Missing.{Missing}
-use Rattle.cutter.proofs.steps.Next.{end-limit, next-is, next-none}
+use Rattle.cutter.specs.Positions.{SweptTo}
+use Rattle.cutter.proofs.positions.Laws.{swept-first, below-count, end-is, room, swept-next, swept-end}
 use Rattle.cutter.proofs.steps.Filling.{padded-set, joined-same, rows-all, Run, sum-more, sum-most, run-bits, ones-bits}
 
 -- the row of prices and the count of flags of schedule s after n steps
@@ -37,25 +36,16 @@ missingTo w n =
     record { first = countTo w n 0; second = countTo w n 1; third = countTo w n 2; fourth = countTo w n 3; fifth = countTo w n 4 }
 
 pub record Swept (w : List ℕ) (n : ℕ) (at : Sweep) (e g : ℕ) (es ps : List ℕ) (m : Missing) : Type 0 where
-  pub within : n ≤ stepCount w
-  pub last : e ≡ lowerEnd w n
-  pub here : SweepAt w at (e + 1 + g)
-  pub gap : g ≡ nextGap w e
+  pub swept : SweptTo w n at e g
   pub ends : es ≡ padded 56 (take n (Rattle.rules.specs.Steps.ends w))
   pub prices : ps ≡ joined 5 (rowTo w n)
   pub missing : m ≡ missingTo w n
-
-pub sweep-first : {w : List ℕ} {at : Sweep} → Line w → at ≡ firstPlaces → SweepAt w at 1
-sweep-first h e = record { line = h; above = omega arith; same = e ∙ first-places h }
 
 pub swept-none : (w : List ℕ) (at : Sweep) (g : ℕ) → g ≡ nextGap w 0 → SweepAt w at (0 + 1 + g)
     → Swept w 0 at 0 g (replicate 56 0) (replicate 280 0) (record { first = 0; second = 0; third = 0; fourth = 0; fifth = 0 })
 swept-none w at g a b =
     record {
-      within = omega arith;
-      last = unfold lowerEnd in refl;
-      here = b;
-      gap = a;
+      swept = swept-first w at g a b;
       ends = unfold padded in refl;
       prices = unfold joined rowTo padded in refl;
       missing = unfold missingTo countTo sumOf in refl;
@@ -70,50 +60,44 @@ missing-most w n e =
 
 -- the next step, which ends at e + 1 + g
 module _ {w : List ℕ} {n : ℕ} {at : Sweep} {e g : ℕ} {es ps : List ℕ} {m : Missing} (h : Line w) (v : Swept w n at e g es ps m) (t : g < far) where
-  next : (n < stepCount w) × (e + 1 + g ≡ upperEnd w n)
-  next = rw (v .gap, v .last) (next-is w (h .accepted) n (v .within) (rw (v .gap, v .last) at t))
+  few : n < 56
+  few = room (v .swept) t
 
-  pub below-count : n < stepCount w
-  below-count = next .0
+  below : n < stepCount w
+  below = below-count (v .swept) t
 
-  pub room : n < 56
-  room = let a = below-count in let b = count-most w (h .accepted) in omega arith
-
-  end-is : e + 1 + g ≡ upperEnd w n
-  end-is = next .1
-
-  pub limit : e + 1 + g ≤ quantityMost
-  limit = let a = end-limit w (h .accepted) n below-count in let b = end-is in omega arith
+  ends-there : e + 1 + g ≡ upperEnd w n
+  ends-there = end-is (v .swept) t
 
   -- the prices
   row-length : (s : ℕ) → length (rowTo w n s) ≡ 56
   unfolding rowTo
   row-length s =
-      let b = room in
+      let b = few in
       let d = length-take n (prices w s) in
       padded-length 56 (take n (prices w s)) (omega arith)
 
   row-more : (s : ℕ) → set (rowTo w n s) n (price w s (e + 1 + g)) ≡ rowTo w (suc n) s
   unfolding rowTo
   row-more s =
-      let a = below-count in
+      let a = below in
       let b = count-most w (h .accepted) in
       let c = prices-length w s in
-      let p : price w s (e + 1 + g) ≡ getD (prices w s) n 0 = ap (price w s) end-is ∙ sym (prices-at w s n below-count) in
+      let p : price w s (e + 1 + g) ≡ getD (prices w s) n 0 = ap (price w s) ends-there ∙ sym (prices-at w s n below) in
       rw p (padded-set 56 n (prices w s) (omega arith) (omega arith))
 
   prices-more : pricesPut w ps (e + 1 + g) n ≡ joined 5 (rowTo w (suc n))
   unfolding pricesPut
   prices-more =
-      rw (v .prices) (rows-all 5 n (rowTo w n) (rowTo w (suc n)) (λ s. price w s (e + 1 + g)) room row-length row-more)
+      rw (v .prices) (rows-all 5 n (rowTo w n) (rowTo w (suc n)) (λ s. price w s (e + 1 + g)) few row-length row-more)
 
   -- the flags
   count-more : (s : ℕ) → countTo w n s + flag w s (e + 1 + g) ≡ countTo w (suc n) s
   unfolding countTo
   count-more s =
-      let a = below-count in
+      let a = below in
       let c = flags-length w s in
-      let p : flag w s (e + 1 + g) ≡ getD (flags w s) n 0 = ap (flag w s) end-is ∙ sym (flags-at w s n below-count) in
+      let p : flag w s (e + 1 + g) ≡ getD (flags w s) n 0 = ap (flag w s) ends-there ∙ sym (flags-at w s n below) in
       rw p (sym (sum-more (flags w s) n (omega arith)))
 
   missing-more : missingWith w (e + 1 + g) m ≡ missingTo w (suc n)
@@ -130,11 +114,8 @@ module _ {w : List ℕ} {n : ℕ} {at : Sweep} {e g : ℕ} {es ps : List ℕ} {m
       let c = count-most w (h .accepted) in
       rw (add-one n)
       (record {
-        within = below-count;
-        last = unfold lowerEnd upperEnd in end-is;
-        here = r;
-        gap = s;
-        ends = rw (v .ends, end-is) (unfold upperEnd stepCount in padded-set 56 n (ends w) below-count c);
+        swept = rw (← add-one n) (swept-next (v .swept) t s r);
+        ends = rw (v .ends, ends-there) (unfold upperEnd stepCount in padded-set 56 n (ends w) below c);
         prices = p ∙ prices-more;
         missing = q ∙ missing-more;
       })
@@ -149,7 +130,7 @@ flags-run w h s j k a b e =
 -- after the last step
 module _ {w : List ℕ} {n : ℕ} {at : Sweep} {e g : ℕ} {es ps : List ℕ} {m : Missing} (h : Line w) (v : Swept w n at e g es ps m) (t : far ≤ g) where
   all : n ≡ stepCount w
-  all = next-none w (h .accepted) n (v .within) (rw (v .gap, v .last) at t)
+  all = swept-end (v .swept) t
 
   word-all : (s : ℕ) → runWord n (countTo w n s) ≡ flagWord w s
   unfolding countTo flagWord

@@ -1,4 +1,4 @@
--- `day_paid::day_paid` meets its contract: the pools, the lines, then the totals.
+-- `day_paid::day_paid` meets its contract: the lines, then the totals.
 use denote.Ref.{now}
 use Rattle.rules.specs.Days.{settledDay}
 use Rattle.step_inputs.specs.Paid.{settled-sized}
@@ -9,32 +9,20 @@ use Rattle.day_paid.proofs.day_paid.Tie as tie
 market-of-requires : tie.Need-market-of-requires
 market-of-requires c κs = c .before .pre .header .length-least
 
-pool-for-requires : tie.Need-pool-for-requires
-pool-for-requires c κs = (c .before .before .pre, c .market-of .ensures)
-
-pool-for-requires-2 : tie.Need-pool-for-requires-2
-pool-for-requires-2 c κs = (c .before .before .before .pre, c .before .market-of .ensures)
-
 pay-lines-requires : tie.Need-pay-lines-requires
 pay-lines-requires c κs =
-    let after-market-of = c .before .before .before .before in
-    let at-start = after-market-of .before .before in
-    record {
-      accepted = at-start .pre;
-      market = after-market-of .market-of .ensures;
-      injection = c .before .before .before .pool-for .ensures;
-      withdrawal = c .before .before .pool-for2 .ensures;
-    }
+    let at-start = c .before .before .before .before in
+    (at-start .pre, c .before .before .market-of .ensures)
 
 signed-money-requires : tie.Need-signed-money-requires
 signed-money-requires c κs =
-    let at-start = c .before .before .before .before .before .before .before in
+    let at-start = c .before .before .before .before .before in
     let day = now (at-start .args .day) in
     all-signable (settledDay day) (settled-sized day (at-start .pre)) _ (c .pay-lines .ensures .0)
 
 adjusted-requires : tie.Need-adjusted-requires
 adjusted-requires c κs =
-    let at-start = c .before .before .before .before .before .before .before .before in
+    let at-start = c .before .before .before .before .before .before in
     let day = now (at-start .args .day) in
     all-bounded (settledDay day) (settled-sized day (at-start .pre)) _ (c .before .pay-lines .ensures .0) _
     (c .signed-money .ensures)
@@ -43,7 +31,7 @@ returns : tie.Need-returns
 returns c =
     let after-signed-money = c .before in
     let after-pay-lines = after-signed-money .before in
-    let at-start = after-pay-lines .before .before .before .before .before .before .before in
+    let at-start = after-pay-lines .before .before .before .before .before in
     let day = now (at-start .args .day) in
     let z = settled-sized day (at-start .pre) in (
       (
@@ -56,5 +44,4 @@ returns c =
 pub day-paid-spec : {M : Type 1} → statement M
 day-paid-spec =
     tie.close
-    (tie.spec market-of-requires pool-for-requires pool-for-requires-2 pay-lines-requires signed-money-requires
-    adjusted-requires returns)
+    (tie.spec market-of-requires pay-lines-requires signed-money-requires adjusted-requires returns)

@@ -19,14 +19,15 @@ side-requires c κs =
 returns : tie.Need-returns
 returns c =
     let at-start = c .before .before .before .before .before in
-    part-other (now (at-start .args .day)) _ _ _ _ _ (c .before .before .before .line-of .ensures) (c .before .before .side .ensures)
-    (c .before .if1 .taken) (c .empty-pool .ensures)
+    part-other (now (at-start .args .day)) _ _ _ _ _ (c .before .before .before .line-of .ensures)
+    (c .before .before .side .ensures) (c .before .if1 .taken) (c .empty-pool .ensures)
 
 returns-2 : tie.Need-returns-2
 returns-2 c =
-    let at-start = c .before .before .before .before .before in
-    part-own (now (at-start .args .day)) _ _ _ _ _ (c .before .before .before .line-of .ensures) (c .before .before .side .ensures)
-    (c .before .if1 .left) (c .line-pool .ensures)
+    let after-line-of = c .before .before .before .before in
+    let at-start = after-line-of .before .before in
+    part-own (now (at-start .args .day)) _ _ _ _ _ (after-line-of .line-of .ensures)
+    (c .before .before .before .side .ensures) (c .before .before .if1 .left) (c .before .line-pool .ensures .pool)
 
 pub side-part-spec : {M : Type 1} → statement M
 side-part-spec =

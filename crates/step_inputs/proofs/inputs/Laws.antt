@@ -4,10 +4,11 @@ use native.Mathlib.Omega.{arith}
 use mathlib.Core.Path.{_≡_, sym, _∙_, ap, subst}
 use mathlib.Core.List.{List, []}
 use lib.ListN.{getD}
+use borrow.Author.Tests.{lt-leb}
 use Rattle.rules.specs.Fold.{five, at, sumTo}
 use Rattle.rules.specs.Layout as layout
 use Rattle.rules.specs.Layout.{excessMost, actualEntry}
-use Rattle.rules.specs.Steps.{greatestBreak, upperEnd, lowerEnd}
+use Rattle.rules.specs.Steps.{greatestBreak, upperEnd, lowerEnd, price, flag}
 use Rattle.rules.specs.Quantities.{pricingTotal, tableTotal, tableActual}
 use Rattle.rules.specs.Refusals.{lineFaultWith}
 use Rattle.rules.specs.InForce.{tableInForce}
@@ -17,13 +18,17 @@ use Rattle.rules.specs.declared.Step.{Step}
 use Rattle.laws.specs.Folds.{at-five}
 use Rattle.laws.specs.Accepted.{accepted-with}
 use Rattle.line_totals.specs.Sums.{lesserSum, lesserAt}
+use Rattle.cutter_cursors.specs.declared.cursors.Sweep.{Sweep}
+use Rattle.cutter_prices.specs.Step.{stepRows}
+use Rattle.cutter_prices.specs.declared.Slots.{Slots}
+use Rattle.cutter_prices.specs.declared.StepRows.{StepRows}
 use Rattle.cutter.specs.Arrays.{priceIn, flagIn}
 use Rattle.cutter.specs.Ends.{most-limit}
 use Rattle.step_inputs.specs.declared.inputs.Market.{Market}
 use Rattle.step_inputs.specs.declared.inputs.LineTotals.{LineTotals}
-use Rattle.step_inputs.specs.Inputs.{marketOf, totalsOf, stepWith, StepReady}
+use Rattle.step_inputs.specs.Inputs.{marketOf, totalsOf, stepWith, StepReady, StepHere}
 use Rattle.step_terms.specs.Terms.{cappedIn, accreditedIn, paidRow}
-use Rattle.step_inputs.specs.Steps.{end-is, step-is, actual-most}
+use Rattle.step_inputs.specs.Steps.{end-is, step-parts, step-is, actual-most}
 
 pub market-is : (d p m : List ℕ) (c k : ℕ) → p ≡ five (layout.marketPrice d) → m ≡ five (layout.capMark d) → c ≡ layout.priceCap d → k ≡ layout.clawback d
     → _≡_ {A = Market} (record { price = p; mark = m; cap = c; clawback = k }) (marketOf d)
@@ -87,3 +92,24 @@ step-ready d k m t es ps fs lo j r up p f x ue pe fe xe =
     ≡ stepWith (marketOf d) (totalsOf (tableInForce d k) w) (lowerEnd w j) (upperEnd w j) (five (priceIn (cutOf w .prices) j)) (five (flagIn (cutOf w .flags) j)) =
     rw (r .market, r .totals, r .lower, ue′, pe′, fe′) in
     xe ∙ same ∙ step-is d k j (r .accepted) (r .step)
+
+-- past the hedge a step is paid where its line is accredited
+pub unhedged : (t : LineTotals) (u : ℕ) → t .hedge < u → t .accredited ≡ paidRow (t .accredited) (t .hedge) u
+unfolding paidRow
+unhedged t u h = rw (lt-leb u (t .hedge) h)
+
+-- the step that is put together where the sweep stands
+pub step-there : (d : List ℕ) (k : ℕ) (w : List ℕ) (m : Market) (t : LineTotals) (c : Slots) (at : Sweep) (lo up j : ℕ) → StepHere d k w m t c at lo up j
+    → (r : StepRows) (x : Step) → r ≡ stepRows w up → x ≡ stepWith m t lo up (r .price) (r .flag) → x ≡ stepOf d k j
+unfolding stepRows
+step-there d k w m t c at lo up j h r x re xe =
+    let v = layout.lineAt d k in
+    let pe : r .price ≡ five (λ s. price v s (upperEnd v j)) = ap (λ (z : StepRows). z .price) re ∙ rw (h .upper, h .line) in
+    let fe : r .flag ≡ five (λ s. flag v s (upperEnd v j)) = ap (λ (z : StepRows). z .flag) re ∙ rw (h .upper, h .line) in
+    let same : stepWith m t lo up (r .price) (r .flag) ≡ stepWith (marketOf d) (totalsOf (tableInForce d k) v) (lowerEnd v j) (upperEnd v j) (r .price) (r .flag) =
+    rw (h .market, h .totals, h .lower, h .upper, h .line) in
+    xe ∙ same ∙ step-parts d k j (r .price) (r .flag) pe fe
+
+pub past-hedge : {d : List ℕ} {k : ℕ} {w : List ℕ} {m : Market} {t : LineTotals} {c : Slots} {at : Sweep} {lo up j : ℕ} → StepHere d k w m t c at lo up j → t .hedge < up
+unfolding totalsOf
+past-hedge {d} {k} {w} {m} {t} {c} {at} {lo} {up} h = subst (λ (z : LineTotals). z .hedge < up) (sym (h .totals)) (h .past)

@@ -3,11 +3,13 @@ use Prim.Native.Nat.{ℕ, zero, suc, _*_, _≤_, _<_, _^_}
 use native.Mathlib.Nat.{zero-mul}
 use native.Mathlib.Decide.{decLt}
 use native.Mathlib.Omega.{arith}
-use mathlib.Core.Path.{_≡_, sym, _∙_}
+use mathlib.Core.Path.{_≡_, refl, sym, _∙_}
 use mathlib.Core.Bool.{cond}
-use mathlib.Core.List.{List}
+use mathlib.Core.List.{List, []}
 use lib.Dec.{eqb}
-use Rattle.rules.specs.Fold.{sumTo, five}
+use lib.ListN.{getD}
+use borrow.Author.Tests.{ne-eqb}
+use Rattle.rules.specs.Fold.{sumTo, five, at}
 use Rattle.rules.specs.Layout.{quantityMost, priceMost}
 use Rattle.rules.specs.Matching.{rise, fall, matched}
 use Rattle.rules.specs.Payments.{onStep, rate, revisedRate, isPaid, initial, revised, modified, givenBack}
@@ -20,8 +22,8 @@ use Rattle.step_matching.specs.Balance.{matched-out}
 use Rattle.step_payments.specs.Sizes.{Sized, matchedAt, rate-most, revisedRate-most, fall-most, givenBack-most}
 use Rattle.step_payments.specs.Parts.{changeOn, initial-plus, initial-minus, revised-plus, revised-taken, modified-plus, modified-minus}
 use Rattle.step_payments.specs.Kinds.{revised-first, modified-first}
-use Rattle.step_payments.specs.Amounts.{givenAt, plusOf, minusOf}
-use Rattle.step_changes.specs.Changes.{onlyPaid, productIn}
+use Rattle.step_payments.specs.Amounts.{givenAt, RevisedFits, revisedGiven, revisedIn, plusOf, minusOf}
+use Rattle.step_changes.specs.Changes.{onlyPaid, productIn, revisedAt}
 
 -- a sum whose terms from s on are 0
 sum-cut : (s n : ℕ) (f : ℕ → ℕ) → ((r : ℕ) → s ≤ r → f r ≡ 0) → s ≤ n → sumTo n f ≡ sumTo s f
@@ -44,13 +46,11 @@ given-is x s f h p q =
     (λ r k. rw (matched-out (onStep x) s r k) (zero-mul (f r)))
     (omega arith))
 
+pub given-most : (x : Step) (s : ℕ) (f : ℕ → ℕ) → Sized x → ((i : ℕ) → f i ≤ priceMost) → givenBack x s f ≤ quantityMost * priceMost
+given-most x s f z k = omega (arith, givenBack-most x s priceMost f k, fall-most x s, z .upper)
+
 pub given-fits : (x : Step) (s : ℕ) (f : ℕ → ℕ) → s < 5 → {m r : List ℕ} → m ≡ matchRow (onStep x) s → r ≡ five f → Sized x → ((i : ℕ) → f i ≤ priceMost) → givenAt m r < 2 ^ 64
-given-fits x s f h p q z k =
-    let b = givenBack-most x s priceMost f k in
-    let d = fall-most x s in
-    let u = z .upper in
-    let t : fall (onStep x) s * priceMost ≤ quantityMost * priceMost = omega arith in
-    rw (given-is x s f h p q) (omega arith)
+given-fits x s f h p q z k = rw (given-is x s f h p q) (omega (arith, given-most x s f z k))
 
 pub revised-rate-most : (x : Step) (s : ℕ) → Sized x → (r : ℕ) → revisedRate x s r ≤ priceMost
 revised-rate-most x s z r = omega (arith, revisedRate-most x s r, rate-most x s z)
@@ -68,6 +68,25 @@ module _ (x : Step) (s : ℕ) (h : s < 5) {m r : List ℕ} {i g : ℕ} where
 pub revised-entry-first : (x : Step) → 0 ≡ minusOf (revised x) 0
 unfolding minusOf
 revised-entry-first x = sym (revised-first x)
+
+-- the row of what revised takes back, from the step's side, prices and market prices
+module _ (x : Step) {c : List ℕ} {t : List (List ℕ)} (p : c ≡ onStep x) (e : t ≡ five (matchRow c)) where
+  pub row-is : (s : ℕ) → s < 5 → getD t s [] ≡ matchRow (onStep x) s
+  row-is s h = rw (e, ← p) (at-five (matchRow c) [] s h)
+
+  pub revised-fits : Sized x → RevisedFits (x .side) (x .price) (x .market) t
+  unfolding revisedGiven revisedRate revisedAt
+  revised-fits z = record { fits = λ s h. given-fits x s (revisedRate x s) h (row-is s h) refl z (revised-rate-most x s z) }
+
+  revised-in : {i : List ℕ} → i ≡ five (minusOf (initial x)) → (s : ℕ) → s < 5 → revisedIn (x .side) (x .price) (x .market) t i s ≡ minusOf (revised x) s
+  unfolding revisedIn revisedGiven revisedRate revisedAt
+  revised-in w zero h = revised-entry-first x
+  revised-in {i} w (suc s) h =
+      let e : at i (suc s) ≡ minusOf (initial x) (suc s) = rw w (at-five (minusOf (initial x)) 0 (suc s) h) in
+      rw (ne-eqb (suc s) 0 (λ q. omega arith)) (revised-entry x (suc s) h (row-is (suc s) h) refl e refl)
+
+  pub revised-row : {i r : List ℕ} → i ≡ five (minusOf (initial x)) → r ≡ five (revisedIn (x .side) (x .price) (x .market) t i) → r ≡ five (minusOf (revised x))
+  revised-row {i} w q = q ∙ five-same (revisedIn (x .side) (x .price) (x .market) t i) (minusOf (revised x)) (revised-in w)
 
 pub modified-entry-first : (x : Step) → 0 ≡ minusOf (modified x) 0
 unfolding minusOf

@@ -1,10 +1,10 @@
 -- A step whose initial payments take nothing back: revised, modified and final payments are the initial ones.
-use Prim.Native.Nat.{ℕ, _+_, _*_, _/_, _<_, min, max}
+use Prim.Native.Nat.{ℕ, _<_, max}
 use native.Mathlib.Omega.{arith}
 use mathlib.Core.Path.{_≡_, refl, sym, _∙_, ap}
-use mathlib.Core.Bool.{Bool, true, false, cond, not}
+use mathlib.Core.Bool.{Bool, true, cond, not}
 use mathlib.Core.List.{List}
-use lib.Dec.{eqb, ltb}
+use lib.Dec.{eqb}
 use lib.IntN.{ℤ, pos, negsuc}
 use lib.Signed.{nonNeg}
 use borrow.Author.Tests.{eqb-true, eq-eqb}
@@ -15,11 +15,11 @@ use Rattle.rules.specs.declared.Step.{Step}
 use Rattle.laws.specs.Folds.{at-five, most-term}
 use Rattle.laws.specs.Ints.{pl, mi}
 use Rattle.numbers.specs.Fives.{five-same}
-use Rattle.step_payments.specs.Parts.{takenBack, final-minus}
+use Rattle.step_payments.specs.Parts.{final-minus}
 use Rattle.step_payments.specs.Amounts.{plusOf, minusOf, moneyOf}
 use Rattle.step_pool.specs.declared.pool_amounts.SidePool.{SidePool}
 use Rattle.step_pool.specs.Amounts.{differsOn, poolAt, finalOn, allZero, Kept}
-use Rattle.step_pool.proofs.pool_amounts.Settling.{no-taking, final-pays}
+use Rattle.step_pool.proofs.pool_amounts.Settling.{cond-same, taken-none, final-pays}
 
 -- the greatest of five by four comparisons
 next : (k : ℕ) {m n : ℕ} → m ≡ n → max m k ≡ max n k
@@ -84,14 +84,6 @@ module _ (x : Step) (k : Kept x) where
       (λ s l. sym (ap (λ (z : ℤ). bit (not (eqbZ z (initial x s)))) (revised-kept x s (k .none s l)) ∙ ap (λ (t : Bool). bit (not t)) (same-eqb (initial x s))))
 
   -- what the final payments take back
-  cond-same : (t : Bool) (n : ℕ) → cond t n n ≡ n
-  cond-same true n = refl
-  cond-same false n = refl
-
-  taken-none : (claw flag d t b : ℕ) → takenBack claw flag 0 0 0 d t b ≡ 0
-  unfolding takenBack
-  taken-none claw flag d t b = rw (no-taking (ltb 0 t) (min 0 (0 + t * d / b)) 0, cond-same (eqb flag 1) 0, cond-same (eqb claw 0) 0)
-
   final-none : (claw : ℕ) (p : SidePool) (s : ℕ) → s < 5 → minusOf (initial x) s ≡ minusOf (finalOn x claw p) s
   unfolding minusOf finalOn
   final-none claw p s l =

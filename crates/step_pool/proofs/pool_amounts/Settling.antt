@@ -10,18 +10,19 @@ use lib.IntN.{ℤ, pos, negsuc}
 use borrow.Author.Tests.{eq-eqb, ne-eqb, lt-ltb}
 use Rattle.rules.specs.Fold.{five, at, eqbZ}
 use Rattle.rules.specs.Matching.{rise, fall}
-use Rattle.rules.specs.Payments.{onStep, bit, rate, isPaid, initial, revised, modified, finalPayment}
+use Rattle.rules.specs.Payments.{onStep, bit, rate, revisedRate, isPaid, initial, givenBack, revised, modified, finalPayment}
 use Rattle.rules.specs.declared.Step.{Step}
 use Rattle.laws.specs.Folds.{at-five}
 use Rattle.laws.specs.Ints.{pl, mi, pl-subℕ}
 use Rattle.numbers.specs.Fives.{five-same}
 use Rattle.step_payments.specs.Sizes.{Sized}
-use Rattle.step_payments.specs.Parts.{changeOn, initial-minus, takenBack, sharedTotal, revised-plus, revised-most, final-plus, final-minus}
-use Rattle.step_payments.specs.Kinds.{initial-within, fall-within}
+use Rattle.step_payments.specs.Parts.{changeOn, initial-minus, takenBack, sharedTotal, revised-plus, revised-taken, modified-minus, final-plus, final-minus}
+use Rattle.step_payments.specs.Kinds.{initial-first, fall-within}
 use Rattle.step_payments.specs.Amounts.{plusOf, minusOf}
+use Rattle.step_payments.proofs.amounts.Joining.{given-most, revised-rate-most}
 use Rattle.step_pool.specs.declared.pool_amounts.SidePool.{SidePool}
 use Rattle.step_pool.specs.declared.pool_amounts.Changes.{Changes}
-use Rattle.step_pool.specs.Amounts.{changesOn, differIn, differsOn, poolAt, totalIn, baseIn, takenIn, Sharing, InPool, finalOn}
+use Rattle.step_pool.specs.Amounts.{changesOn, differIn, differsOn, poolAt, totalIn, baseIn, finalTaken, takenOn, SharedOn, InPool, finalOn}
 
 -- the rows of a step's changes
 module _ (x : Step) (v : Changes) (e : v ≡ changesOn x) where
@@ -71,9 +72,17 @@ shared-total p s =
     (total-by (at (p .differs) s) (at (p .plus) s - at (p .minus) s))
 
 -- the fall counts only where the initial payment takes something back
-pub no-taking : (a : Bool) (x y : ℕ) → cond (a && false) x y ≡ y
+no-taking : (a : Bool) (x y : ℕ) → cond (a && false) x y ≡ y
 no-taking true x y = refl
 no-taking false x y = refl
+
+pub cond-same : (t : Bool) (n : ℕ) → cond t n n ≡ n
+cond-same true n = refl
+cond-same false n = refl
+
+pub taken-none : (claw flag d t b : ℕ) → takenBack claw flag 0 0 0 d t b ≡ 0
+unfolding takenBack
+taken-none claw flag d t b = rw (no-taking (ltb 0 t) (min 0 (0 + t * d / b)) 0, cond-same (eqb flag 1) 0, cond-same (eqb claw 0) 0)
 
 taken-fall : (claw flag i r m d e t b : ℕ) → (0 < i → d ≡ e) → takenBack claw flag i r m d t b ≡ takenBack claw flag i r m e t b
 unfolding takenBack
@@ -99,39 +108,36 @@ finished x claw s p =
     (taken-fall claw (at (x .flag) s) (mi (initial x s)) (mi (revised x s)) (mi (modified x s)) (fall (onStep x) s) (changeOn fall x s) (totalIn p s)
     (max (at (p .rises) s) (at (p .falls) s)) (paid-fall x s)))
 
--- the rows that the final payments are worked out from
-pub record Rows (x : Step) (p : SidePool) (i r m d t b : List ℕ) : Type 0 where
-  pub initials : i ≡ five (minusOf (initial x))
-  pub reviseds : r ≡ five (minusOf (revised x))
-  pub modifieds : m ≡ five (minusOf (modified x))
-  pub falls : d ≡ five (changeOn fall x)
-  pub totals : t ≡ five (totalIn p)
-  pub bases : b ≡ five (baseIn p)
-
--- what final takes back
-final-entry : (x : Step) (claw : ℕ) (p : SidePool) (s : ℕ) → s < 5
-    → takenIn claw (x .flag) (five (minusOf (initial x))) (five (minusOf (revised x))) (five (minusOf (modified x))) (five (changeOn fall x)) (five (totalIn p)) (five (baseIn p)) s ≡ minusOf (finalOn x claw p) s
-unfolding takenIn minusOf finalOn
-final-entry x claw p s h =
+-- with clawback on, by whether the initial payment takes something back
+on-by : (claw flag i r m d t b : ℕ) → (claw ≡ 0 → ⊥) → takenBack claw flag i (cond (eqb i 0) 0 r) (cond (eqb i 0) 0 m) d t b ≡ finalTaken flag i r m d t b
+unfolding takenBack finalTaken
+on-by claw flag zero r m d t b h = taken-none claw flag d t b
+on-by claw flag (suc i) r m d zero b h = rw (ne-eqb claw 0 h, ne-eqb (suc i) 0 (λ q. omega arith))
+on-by claw flag (suc i) r m d (suc t) b h =
     rw (
-      at-five (minusOf (initial x)) 0 s h,
-      at-five (minusOf (revised x)) 0 s h,
-      at-five (minusOf (modified x)) 0 s h,
-      at-five (changeOn fall x) 0 s h,
-      at-five (totalIn p) 0 s h,
-      at-five (baseIn p) 0 s h,
+      ne-eqb claw 0 h,
+      ne-eqb (suc i) 0 (λ q. omega arith),
+      ne-eqb (suc t) 0 (λ q. omega arith),
+      lt-ltb 0 (suc t) (omega arith),
+      lt-ltb 0 (suc i) (omega arith),
     )
-    (sym (finished x claw s p))
 
-pub final-row : (x : Step) (claw : ℕ) (p : SidePool) {i r m d t b q : List ℕ} → Rows x p i r m d t b → q ≡ five (takenIn claw (x .flag) i r m d t b) → q ≡ five (minusOf (finalOn x claw p))
-final-row x claw p w e =
-    e
-    ∙ rw (w .initials, w .reviseds, w .modifieds, w .falls, w .totals, w .bases)
-    (five-same
-    (takenIn claw (x .flag) (five (minusOf (initial x))) (five (minusOf (revised x))) (five (minusOf (modified x))) (five (changeOn fall x))
-    (five (totalIn p)) (five (baseIn p)))
-    (minusOf (finalOn x claw p))
-    (final-entry x claw p))
+taken-entry : (x : Step) (claw : ℕ) (p : SidePool) → (claw ≡ 0 → ⊥) → (s : ℕ) → s < 5 → takenOn x (five (totalIn p)) (five (baseIn p)) s ≡ minusOf (finalOn x claw p) s
+unfolding takenOn minusOf finalOn
+taken-entry x claw p n zero h = sym (finished x claw 0 p ∙ initial-first x)
+taken-entry x claw p n (suc s) h =
+    let i = mi (initial x (suc s)) in
+    let z = ne-eqb (suc s) 0 (λ q. omega arith) in
+    rw (z, at-five (totalIn p) 0 (suc s) h, at-five (baseIn p) 0 (suc s) h)
+    (sym
+    (finished x claw (suc s) p
+    ∙ rw (z, revised-taken x (suc s), modified-minus x (suc s))
+    (on-by claw (at (x .flag) (suc s)) i (givenBack x (suc s) (revisedRate x (suc s))) (givenBack x (suc s) (rate x)) (changeOn fall x (suc s))
+    (totalIn p (suc s)) (baseIn p (suc s)) n)))
+
+pub shares-final : (x : Step) (claw : ℕ) (p : SidePool) {t b q : List ℕ} → (claw ≡ 0 → ⊥) → t ≡ five (totalIn p) → b ≡ five (baseIn p) → q ≡ five (takenOn x t b) → q ≡ five (minusOf (finalOn x claw p))
+shares-final x claw p n e f g =
+    rw (g, e, f) (five-same (takenOn x (five (totalIn p)) (five (baseIn p))) (minusOf (finalOn x claw p)) (taken-entry x claw p n))
 
 pub final-pays : (x : Step) (claw : ℕ) (p : SidePool) → five (plusOf (initial x)) ≡ five (plusOf (finalOn x claw p))
 unfolding plusOf finalOn
@@ -146,37 +152,24 @@ some-by : (d n : ℕ) → 0 < d * n → 0 < d
 some-by zero n h = omega (arith, zero-mul n)
 some-by (suc d) n h = omega arith
 
-sharing-at : (x : Step) (p : SidePool) (s : ℕ) → s < 5 → Sized x → InPool x p → Sharing (mi (initial x s)) (mi (revised x s)) (changeOn fall x s) (totalIn p s) (baseIn p s)
-unfolding totalIn baseIn
-sharing-at x p s l z k =
+pub shares-fit : (x : Step) (p : SidePool) {t b : List ℕ} → t ≡ five (totalIn p) → b ≡ five (baseIn p) → Sized x → InPool x p → SharedOn x t b
+unfolding totalIn baseIn minusOf
+shares-fit x p e f z k =
     record {
-      part = omega (arith, k .within s l);
-      some = λ h. omega (arith, k .within s l, some-by (changeOn fall x s) (rate x s) (omega (arith, initial-minus x s)));
-      base = omega (arith, k .rising s l, k .falling s l);
-      fall = omega (arith, fall-within x s z);
-      fits =
-          omega (
-            arith,
-            revised-most x s,
-            initial-within x s z .taken,
-            k .paying s l,
-            total-most (at (p .differs) s) (at (p .plus) s) (at (p .minus) s),
-          );
+      sharing =
+          λ s l.
+          rw (e, f, at-five (totalIn p) 0 s l, at-five (baseIn p) 0 s l)
+          (record {
+            part = omega (arith, k .within s l);
+            some = λ h. omega (arith, k .within s l, some-by (changeOn fall x s) (rate x s) (omega (arith, initial-minus x s)));
+            base = omega (arith, k .rising s l, k .falling s l);
+            fall = omega (arith, fall-within x s z);
+            fits =
+                omega (
+                  arith,
+                  given-most x s (revisedRate x s) z (revised-rate-most x s z),
+                  k .paying s l,
+                  total-most (at (p .differs) s) (at (p .plus) s) (at (p .minus) s),
+                );
+          });
     }
-
-pub sharing : (x : Step) (p : SidePool) {i r m d t b : List ℕ} → Rows x p i r m d t b → Sized x → InPool x p → (s : ℕ) → s < 5 → Sharing (at i s) (at r s) (at d s) (at t s) (at b s)
-unfolding minusOf
-sharing x p w z k s h =
-    rw (
-      w .initials,
-      w .reviseds,
-      w .falls,
-      w .totals,
-      w .bases,
-      at-five (minusOf (initial x)) 0 s h,
-      at-five (minusOf (revised x)) 0 s h,
-      at-five (changeOn fall x) 0 s h,
-      at-five (totalIn p) 0 s h,
-      at-five (baseIn p) 0 s h,
-    )
-    (sharing-at x p s h z k)

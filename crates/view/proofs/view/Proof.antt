@@ -6,9 +6,9 @@ use native.Mathlib.Omega.{arith}
 use borrow.Author.Needs.{needs}
 use Rattle.rules.specs.Layout.{lineCount}
 use Rattle.laws.specs.Accepted.{AcceptedDay, accepted-day}
-use Rattle.day_pools.proofs.Laws.{line-lies, table-lies, lent-length, lent-with, lent-line, count-is, count-few, step-there, step-sized, step-payable, market-claw}
+use Rattle.day_pools.proofs.Laws.{line-lies, table-lies, lent-length, lent-with, lent-line, count-is, count-few, step-there}
 use Rattle.view.specs.Figures.{view-refused, fault-day, fault-line, fault-step, view-whole}
-use Rattle.view.proofs.figures.Laws.{lower-is, pool-there, figures-there}
+use Rattle.view.proofs.figures.Laws.{lower-is, pool-there}
 use Rattle.view.proofs.view.Statement.{statement}
 use Rattle.view.proofs.view.Tie as tie
 
@@ -124,79 +124,57 @@ totals-of-requires c κs =
     (c .day-table .ensures) in
     (lent-length day (accepted in-else1) line (below in-else2) _ (after-line-of .line-of .ensures), lent-with′)
 
-lower-end-requires : tie.Need-lower-end-requires
-lower-end-requires c κs =
-    let in-else3 = c .before .before .before .before .before .before .before .before .before in few in-else3
-
-step-at-requires : tie.Need-step-at-requires
-step-at-requires c κs =
-    let after-totals-of = c .before .before .before .before in
-    let after-day-table = after-totals-of .before in
-    let after-market-of = after-day-table .before in
-    let in-else3 = after-market-of .before .before .before .before in
-    let after-steps = in-else3 .before .before in
-    let in-else2 = after-steps .before .before in
-    let in-else1 = in-else2 .before .before in
-    let at-start = from-else1 in-else1 in
-    let day = now (at-start .args .day) in
-    let line = at-start .args .line in
-    let step = at-start .args .step in
-    let line-of-ensures = after-steps .before .line-of .ensures in
-    let lower-is′ = lower-is day _ line step _ _ line-of-ensures (after-steps .steps .ensures) (c .lower-end .ensures) in
-    step-there day (accepted in-else1) line (below in-else2) _ line-of-ensures _ (after-steps .steps .ensures) step
-    (in-else3 .if3 .left) _ _ _ _ (after-market-of .market-of .ensures) (after-day-table .day-table .ensures)
-    (after-totals-of .totals-of .ensures) lower-is′
-
 pool-for-requires : tie.Need-pool-for-requires
 pool-for-requires c κs =
-    let after-market-of = c .before .before .before .before .before .before .before in
+    let after-market-of = c .before .before in
     let in-else1 = after-market-of .before .before .before .before .before .before .before .before .before .before in
     (accepted in-else1, after-market-of .market-of .ensures)
 
-figures-requires : tie.Need-figures-requires
-figures-requires c κs =
-    let after-market-of = c .before .before .before .before .before .before .before .before in
+lower-end-requires : tie.Need-lower-end-requires
+lower-end-requires c κs =
+    let in-else3 = c .before .before .before .before .before .before .before .before .before .before in few in-else3
+
+step-view-requires : tie.Need-step-view-requires
+step-view-requires c κs =
+    let after-pool-for = c .before .before .before .before in
+    let after-totals-of = after-pool-for .before in
+    let after-market-of = after-totals-of .before .before in
     let in-else3 = after-market-of .before .before .before .before in
     let after-steps = in-else3 .before .before in
     let after-line-of = after-steps .before in
     let in-else2 = after-line-of .before in
     let in-else1 = in-else2 .before .before in
-    let at-start = in-else1 .before .before .before in
+    let at-start = from-else1 in-else1 in
     let day = now (at-start .args .day) in
     let line = at-start .args .line in
     let step = at-start .args .step in
-    let step-at-ensures = c .before .step-at .ensures in
-    let step-sized′ = step-sized day (accepted in-else1) line (below in-else2) _ (after-line-of .line-of .ensures) _
-    (after-steps .steps .ensures) step (in-else3 .if3 .left) _ step-at-ensures in
-    let step-payable′ = step-payable day (accepted in-else1) line (below in-else2) _ (after-line-of .line-of .ensures) _
-    (after-steps .steps .ensures) step (in-else3 .if3 .left) _
-    (pool-there day line step _ _ step-at-ensures (c .pool-for .ensures)) _
-    (market-claw day _ (after-market-of .market-of .ensures)) _ step-at-ensures in
-    (step-sized′, step-payable′)
+    let e = after-line-of .line-of .ensures in
+    let lower-is′ = lower-is day _ line step _ _ e (after-steps .steps .ensures) (c .lower-end .ensures) in (
+      accepted in-else1,
+      below in-else2,
+      step-there day (accepted in-else1) line (below in-else2) _ e _ (after-steps .steps .ensures) step (in-else3 .if3 .left)
+          _ _ _ _ (after-market-of .market-of .ensures) (after-totals-of .before .day-table .ensures)
+          (after-totals-of .totals-of .ensures) lower-is′,
+      pool-there day _ line _ _ _ e (after-totals-of .totals-of .ensures) (after-pool-for .pool-for .ensures),
+    )
 
 returns-4 : tie.Need-returns-4
 returns-4 c =
-    let after-step-at = c .before .before in
-    let after-market-of = after-step-at .before .before .before .before .before .before .before in
-    let in-else3 = after-market-of .before .before .before .before in
+    let after-pool-for = c .before .before .before .before .before in
+    let in-else3 = after-pool-for .before .before .before .before .before .before .before in
     let in-else2 = in-else3 .before .before .before .before in
     let in-else1 = in-else2 .before .before in
-    let at-start = in-else1 .before .before .before in
+    let at-start = from-else1 in-else1 in
     let day = now (at-start .args .day) in
     let line = at-start .args .line in
-    let step = at-start .args .step in
-    let pool-there′ = pool-there day line step _ _ (after-step-at .step-at .ensures) (c .before .pool-for .ensures) in
-    let there = figures-there day line step _ _ _ _ (after-step-at .step-at .ensures)
-    (market-claw day _ (after-market-of .market-of .ensures)) pool-there′ (c .figures .ensures) in
     let count-is′ = count-is day (accepted in-else1) line (below in-else2) _
     (in-else3 .before .before .before .line-of .ensures) _ (in-else3 .before .before .steps .ensures) in
-    view-whole day line step _ (in-else1 .before .day-number .ensures) (in-else1 .if1 .left) (below in-else2) _ there
-    (omega (arith, count-is′, in-else3 .if3 .left))
+    view-whole day line (at-start .args .step) _ (in-else1 .before .day-number .ensures) (in-else1 .if1 .left)
+    (below in-else2) _ (c .step-view .ensures) (omega (arith, count-is′, in-else3 .if3 .left))
 
 pub view-spec : {M : Type 1} → statement M
 view-spec =
     tie.close
     (tie.spec (λ c κs. search needs) (λ c κs. search needs) returns line-count-requires (λ c κs. search needs)
     returns-2 line-of-requires steps-requires (λ c. search needs) (λ c κs. search needs) returns-3 market-of-requires
-    day-table-requires totals-of-requires lower-end-requires step-at-requires pool-for-requires figures-requires
-    returns-4)
+    day-table-requires totals-of-requires pool-for-requires lower-end-requires step-view-requires returns-4)

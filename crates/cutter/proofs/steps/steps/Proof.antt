@@ -3,8 +3,8 @@ use native.Mathlib.Omega.{arith}
 use Prim.Native.Nat.{_-_}
 use Rattle.rules.specs.Steps.{stepCount}
 use Rattle.cutter.specs.Ends.{count-most}
-use Rattle.cutter.proofs.steps.Swept.{Swept, sweep-first, swept-none, missing-most, below-count, room, limit, swept-more}
-use Rattle.cutter.proofs.steps.Swept.{swept-all}
+use Rattle.cutter.proofs.positions.Laws.{sweep-first, below-count, room, limit}
+use Rattle.cutter.proofs.steps.Swept.{Swept, swept-none, missing-most, swept-more, swept-all}
 use Rattle.cutter.proofs.steps.steps.Statement.{statement}
 use Rattle.cutter.proofs.steps.steps.Tie as tie
 
@@ -27,32 +27,24 @@ loop-holds : tie.Need-loop-holds Inv-loop μ-loop
 loop-holds c = swept-none _ _ _ (c .next-gap .ensures .0) (c .next-gap .ensures .1)
 
 add-end : tie.Need-add-end Inv-loop μ-loop
-add-end c =
-    let at-start = c .before .before .before .before .before .before in
-    omega (arith, limit (at-start .pre) (c .before .loop .inv) (c .loop-test .taken))
+add-end c = omega (arith, limit (c .before .loop .inv .swept) (c .loop-test .taken))
 
 add-end-2 : tie.Need-add-end-2 Inv-loop μ-loop
-add-end-2 c =
-    let at-start = c .before .before .before .before .before .before in
-    omega (arith, limit (at-start .pre) (c .before .loop .inv) (c .loop-test .taken))
+add-end-2 c = omega (arith, limit (c .before .loop .inv .swept) (c .loop-test .taken))
 
 mul-ends : tie.Need-mul-ends Inv-loop μ-loop
-mul-ends c =
-    let at-start = c .before .before .before .before .before .before in
-    omega (arith, room (at-start .pre) (c .before .loop .inv) (c .loop-test .taken))
+mul-ends c = omega (arith, room (c .before .loop .inv .swept) (c .loop-test .taken))
 
 array-write-ends : tie.Need-array-write-ends Inv-loop μ-loop
-array-write-ends c =
-    let at-start = c .before .before .before .before .before .before in
-    room (at-start .pre) (c .before .loop .inv) (c .loop-test .taken)
+array-write-ends c = room (c .before .loop .inv .swept) (c .loop-test .taken)
 
 put-step-requires : tie.Need-put-step-requires Inv-loop μ-loop
 put-step-requires c κs =
     let at-loop = c .before .before in
     let at-start = at-loop .before .before .before .before .before in (
-      at-loop .loop .inv .here,
+      at-loop .loop .inv .swept .here,
       at-loop .before .before .price-slots .ensures,
-      room (at-start .pre) (at-loop .loop .inv) (c .before .loop-test .taken),
+      room (at-loop .loop .inv .swept) (c .before .loop-test .taken),
       missing-most _ _ (at-loop .loop .inv .missing),
     )
 
@@ -60,27 +52,25 @@ passed-requires : tie.Need-passed-requires Inv-loop μ-loop
 passed-requires c κs =
     let at-loop = c .before .before .before in
     let at-start = at-loop .before .before .before .before .before in
-    (at-loop .loop .inv .here, omega (arith, limit (at-start .pre) (at-loop .loop .inv) (c .before .before .loop-test .taken)))
+    (at-loop .loop .inv .swept .here, omega (arith, limit (at-loop .loop .inv .swept) (c .before .before .loop-test .taken)))
 
 next-gap-requires-2 : tie.Need-next-gap-requires-2 Inv-loop μ-loop
 next-gap-requires-2 c κs =
     let at-loop = c .before .before .before .before in
     let at-start = at-loop .before .before .before .before .before in (
       record { line = (at-start .pre); above = omega arith; same = (c .passed .ensures) },
-      limit (at-start .pre) (at-loop .loop .inv) (c .before .before .before .loop-test .taken),
+      limit (at-loop .loop .inv .swept) (c .before .before .before .loop-test .taken),
     )
 
 add-n : tie.Need-add-n Inv-loop μ-loop
 add-n c =
     let at-loop-test = c .before .before .before .before in
-    let at-start = at-loop-test .before .before .before .before .before .before in
-    omega (arith, room (at-start .pre) (at-loop-test .before .loop .inv) (at-loop-test .loop-test .taken))
+    omega (arith, room (at-loop-test .before .loop .inv .swept) (at-loop-test .loop-test .taken))
 
 loop-less : tie.Need-loop-less Inv-loop μ-loop
 loop-less c =
     let at-loop-test = c .before .before .before .before in
-    let at-start = at-loop-test .before .before .before .before .before .before in
-    omega (arith, below-count (at-start .pre) (at-loop-test .before .loop .inv) (at-loop-test .loop-test .taken))
+    omega (arith, below-count (at-loop-test .before .loop .inv .swept) (at-loop-test .loop-test .taken))
 
 loop-again : tie.Need-loop-again Inv-loop μ-loop
 loop-again c =
@@ -94,12 +84,12 @@ flag-words-requires : tie.Need-flag-words-requires Inv-loop μ-loop
 flag-words-requires c κs =
     let at-loop = c .before in
     let at-start = at-loop .before .before .before .before .before in
-    (omega (arith, at-loop .loop .inv .within, count-most _ (at-start .pre .accepted)), missing-most _ _ (at-loop .loop .inv .missing))
+    (omega (arith, at-loop .loop .inv .swept .within, count-most _ (at-start .pre .accepted)), missing-most _ _ (at-loop .loop .inv .missing))
 
 cast-t17 : tie.Need-cast-t17 Inv-loop μ-loop
 cast-t17 c =
     let at-start = c .before .before .before .before .before .before .before in
-    omega (arith, c .before .before .loop .inv .within, count-most _ (at-start .pre .accepted))
+    omega (arith, c .before .before .loop .inv .swept .within, count-most _ (at-start .pre .accepted))
 
 counted-requires : tie.Need-counted-requires Inv-loop μ-loop
 counted-requires c κs = tt

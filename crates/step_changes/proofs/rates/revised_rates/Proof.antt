@@ -8,21 +8,17 @@ use Rattle.step_changes.proofs.rates.revised_rates.Tie as tie
 returns : tie.Need-returns
 unfolding revisedAt
 returns c =
-    let after-beyond-by3 = c .before .before .before .before in
-    let after-beyond-by = after-beyond-by3 .before .before .before .before in
-    let at-start = after-beyond-by .before .before in
+    let after-revised-rate = c .before .before .before .before in
+    let at-start = after-revised-rate .before in
     let g = at-start .args in
     five-is
     (revisedAt (g .side) (g .t2) (g .own) (g .market))
-    (rw (← after-beyond-by .before .milder .ensures) (after-beyond-by .beyond-by .ensures))
-    (rw (← after-beyond-by3 .before .before .before .milder2 .ensures) (after-beyond-by3 .before .before .beyond-by2 .ensures))
-    (rw (← after-beyond-by3 .before .milder3 .ensures) (after-beyond-by3 .beyond-by3 .ensures))
-    (rw (← c .before .before .before .milder4 .ensures) (c .before .before .beyond-by4 .ensures))
-    (rw (← c .before .milder5 .ensures) (c .beyond-by5 .ensures))
+    (after-revised-rate .revised-rate .ensures)
+    (c .before .before .before .revised-rate2 .ensures)
+    (c .before .before .revised-rate3 .ensures) (c .before .revised-rate4 .ensures) (c .revised-rate5 .ensures)
 
 pub revised-rates-spec : {M : Type 1} → statement M
 revised-rates-spec =
     tie.close
-    (tie.spec (λ c. search needs) (λ c κs. tt) (λ c κs. tt) (λ c. search needs) (λ c κs. tt) (λ c κs. tt)
-    (λ c. search needs) (λ c κs. tt) (λ c κs. tt) (λ c. search needs) (λ c κs. tt) (λ c κs. tt) (λ c. search needs)
-    (λ c κs. tt) (λ c κs. tt) returns)
+    (tie.spec (λ c. search needs) (λ c κs. tt) (λ c. search needs) (λ c κs. tt) (λ c. search needs) (λ c κs. tt)
+    (λ c. search needs) (λ c κs. tt) (λ c. search needs) (λ c κs. tt) returns)

@@ -46,9 +46,8 @@ returns-4 c =
 
 put-line-requires : tie.Need-put-line-requires
 put-line-requires c κs =
-    let after-day-number = c .before .before .before .before in
-    let at-start = after-day-number .before .before .before .before in (
-      accepted-day (now (at-start .args .day)) (sym (after-day-number .day-number .ensures) ∙ c .before .before .before .if2 .left),
+    let after-day-number = c .before .before .before .before in (
+      sym (after-day-number .day-number .ensures) ∙ c .before .before .before .if2 .left,
       omega (arith, c .before .before .line-count .ensures, c .before .if4 .left),
       search needs,
     )
