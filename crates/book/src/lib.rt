@@ -1,5 +1,8 @@
 // The parts of a book (document 01, "Totals and book") written into lent bytes from a place on. Each function answers the place after
 // its part. `Written` of crate `text` (specs/Put.antt) says what stands in the bytes then.
+
+#![tactic(auto)]
+
 ghost use Rattle.std.specs.Prelude.{◌≡◌, ◌+◌, ◌≤◌, ◌++◌, length};
 ghost use Rattle.rules.specs.Fold.{joined, at_z};
 ghost use Rattle.rules.specs.Book.{word_bytes, signed_bytes};

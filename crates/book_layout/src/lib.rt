@@ -1,5 +1,8 @@
 // Where the numbers of a book stand in its bytes (document 01, "Totals and book"): specs/Framing.antt has the place of each, and that a
 // day's numbers are read back from a day's book.
+
+#![tactic(auto)]
+
 ghost use Rattle.std.specs.Prelude.{◌≡◌, ◌^◌, ◌<◌};
 ghost use Rattle.book_layout.specs.Framing.{entry_at};
 

@@ -1,5 +1,8 @@
 // A book's fields read from its bytes (document 01, "Totals and book"). Framing.antt of crate `book_layout` has the definition of each
 // field, and that what is read from a day's book is the day's.
+
+#![tactic(auto)]
+
 ghost use Rattle.std.specs.Prelude.{◌≡◌, ◌+◌, ◌*◌, ◌≤◌, ◌<◌, length};
 ghost use Rattle.rules.specs.Fold.{five};
 ghost use Rattle.rules.specs.Layout.{word};

@@ -1,4 +1,7 @@
 // The certificate of demand 3 on real calls: what settling, the step view and the cutter answer for one day; and the laws of uplift (uplifts).
+
+#![tactic(auto)]
+
 pub mod line_sums;
 pub mod matches;
 pub mod uplifts;

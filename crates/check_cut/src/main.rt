@@ -1,6 +1,8 @@
 // Reads a pack of lines on standard input and prints the text of each line's cut. A line broken off, or longer than 1,024 bytes, ends the
 // run.
 
+#![tactic(auto)]
+
 // Prints the text of the line that is the first `length` of the lent bytes. Answers whether they are so many.
 fn shown(space: &[u8], length: usize) -> bool {
     if space.len() < length {

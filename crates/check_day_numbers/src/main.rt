@@ -1,5 +1,8 @@
 // Reads a pack of days on standard input and prints the number of each, one a line. A day broken off, or longer than 131,072 bytes, ends
 // the run.
+
+#![tactic(auto)]
+
 use numbers::wide;
 
 // Prints the number of the day that is the first `length` of the lent bytes. Answers whether they are so many.

@@ -1,5 +1,8 @@
 // Reads a day of up to 4,096 bytes on standard input and prints line parts of it, also for a line far beyond the last and for headers
 // that are refused. A line has k, the number answered, the length of the part lent, and the part's first four bytes where it has any.
+
+#![tactic(auto)]
+
 use numbers::wide;
 
 fn size(v: usize) -> u64 {

@@ -1,6 +1,8 @@
 // Reads a pack of days on standard input and prints the report of each, as the program `settle` does. A day broken off, or longer than
 // 65,536 bytes, ends the run.
 
+#![tactic(auto)]
+
 // Prints the report of a day.
 fn print_report(day: &[u8]) -> bool {
     let mut out = [0u8; 12288];

@@ -1,6 +1,8 @@
 // Reads a pack of days on standard input and prints for each what the program `steps` prints for it. A day broken off, or longer than
 // 131,072 bytes, ends the run.
 
+#![tactic(auto)]
+
 // Prints the text of the day that is the first `length` of the lent bytes. Answers whether they are so many.
 fn shown(space: &[u8], length: usize) -> bool {
     if space.len() < length {

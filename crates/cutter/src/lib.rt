@@ -1,4 +1,7 @@
 // The cutter: one line's bytes to its steps' ends, prices and missing-price flags (document 01, "Steps and prices"), or to its refusal.
+
+#![tactic(auto)]
+
 pub mod positions;
 pub mod read_step;
 pub mod steps;

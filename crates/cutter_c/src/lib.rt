@@ -1,4 +1,7 @@
 // The cutter for programs in C and other languages; include/mewikofu.h declares it.
+
+#![tactic(auto)]
+
 ghost use Rattle.std.specs.Prelude.{◌≡◌};
 ghost use Rattle.rules.specs.Cutting.{cut_answer};
 

@@ -1,2 +1,5 @@
 // The cutter's cursors and the next end.
+
+#![tactic(auto)]
+
 pub mod cursors;

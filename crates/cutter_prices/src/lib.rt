@@ -1,5 +1,8 @@
 // What the cutter writes of a step: its price and its missing-price flag in each schedule (document 01, "Steps and prices"), read from the
 // lent line. The flagged steps of a schedule are a run at the end, so the flags are counted, and a schedule's word is made of the count.
+
+#![tactic(auto)]
+
 ghost use Rattle.std.specs.Prelude.{◌≡◌, [], ◌∷◌, ◌+◌, ◌*◌, ◌≤◌, ◌<◌, set};
 ghost use Rattle.rules.specs.Steps.{source, price, flag};
 ghost use Rattle.cutter_cursors.specs.Sweep.{Line, Standing, SweepAt};

@@ -1,4 +1,7 @@
 // The day file: its number, from the header, the market table, the records, the lines and their keys.
+
+#![tactic(auto)]
+
 mod equal_keys;
 mod market;
 mod records;

@@ -1,4 +1,7 @@
 // A day file's header and the line part (document 01, refusals 1 to 3 and 16; document 02, F-5, refusal 19).
+
+#![tactic(auto)]
+
 ghost use Rattle.std.specs.Prelude.{◌≡◌, ℕ, ◌≤◌, ◌<◌, List, length};
 ghost use Rattle.rules.specs.Refusals.{header_fault_of, header_fault, day_fault, line_part_fault, line_part};
 ghost use Rattle.day_header.specs.Records.{misplaced};

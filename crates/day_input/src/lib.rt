@@ -1,5 +1,8 @@
 // A day on standard input that goes on after its first bytes, which fill a buffer of 65,536: no accepted day is as long, but the number of
 // a longer one depends on its length.
+
+#![tactic(auto)]
+
 ghost use Rattle.std.specs.Prelude.{◌≡◌, false, ◌≤◌, ◌<◌, length};
 
 use text_long::put_long;

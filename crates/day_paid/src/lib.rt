@@ -1,4 +1,7 @@
 // What each line of an accepted day is paid, and the day's totals, worked out without a book (document 01, "Totals and book").
+
+#![tactic(auto)]
+
 ghost use Rattle.std.specs.Prelude.{◌≡◌, ◌+◌, ◌*◌, ◌≤◌, ◌<◌, set};
 ghost use Rattle.std.proofs.lemmas.List.Edits.{sets};
 ghost use Rattle.rules.specs.Fold.{five, list_to};

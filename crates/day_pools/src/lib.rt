@@ -1,4 +1,7 @@
 // Pools of a line's steps and of a side's lines, and what a line is paid.
+
+#![tactic(auto)]
+
 mod marks;
 pub mod window;
 

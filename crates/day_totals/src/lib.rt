@@ -1,4 +1,7 @@
 // Adjusted totals (document 01, "Totals and book"; FD 9.3), in signed 64-bit numbers.
+
+#![tactic(auto)]
+
 ghost use Rattle.std.specs.Prelude.{◌+◌, ◌<◌, ◌≡◌, pos, ◌+ℤ◌};
 ghost use Rattle.std.specs.Int.{w64};
 ghost use Rattle.std.proofs.Common.{SFits};

@@ -1,4 +1,7 @@
 // Each schedule's uplift (document 02, F-1): a day's bytes to five signed shares, worked out without a book.
+
+#![tactic(auto)]
+
 ghost use Rattle.std.specs.Prelude.{◌≡◌};
 ghost use Rattle.rules.specs.Uplift.{uplift_answer};
 

@@ -1,1 +1,3 @@
 // Laws on the definitions of `rules`, in specs/. No code.
+
+#![tactic(auto)]

@@ -1,4 +1,7 @@
 // One line's 660 bytes: refusals 6 to 13.
+
+#![tactic(auto)]
+
 ghost use Rattle.std.specs.Prelude.{◌≡◌, ◌+◌, ◌*◌, ◌≤◌, length};
 ghost use Rattle.rules.specs.Fold.{first};
 ghost use Rattle.rules.specs.Refusals.{head_fault, line_fault};

@@ -1,4 +1,7 @@
 // Refusals 11 to 13, which hold a line's hedge to M, its totals to what they may have above M, and its actuals to the quantity limit.
+
+#![tactic(auto)]
+
 pub mod greatest_break;
 
 ghost use Rattle.std.specs.Prelude.{◌≡◌, ◌+◌, length};

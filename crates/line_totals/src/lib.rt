@@ -1,4 +1,7 @@
 // Sums of rows of five, in 64 bits, because nothing bounds the words of the totals.
+
+#![tactic(auto)]
+
 ghost use Rattle.std.specs.Prelude.{◌≡◌};
 ghost use Rattle.rules.specs.Fold.{five};
 ghost use Rattle.rules.specs.Quantities.{table_total};

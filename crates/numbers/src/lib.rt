@@ -1,6 +1,8 @@
 // Plain arithmetic that the other crates share: lesser and greater, saturating difference, a price turned by the side, wider numbers,
 // 1 for a true test, a signed difference, and a share t * d / b.
 
+#![tactic(auto)]
+
 ghost use Rattle.std.specs.Prelude.{◌≡◌, ◌*◌, ◌-◌, ◌/◌, ◌<◌, ◌≤◌, ◌^◌, min, max};
 ghost use Rattle.std.proofs.Math.IntN.{sub_ℕ};
 ghost use Rattle.rules.specs.Fold.{five, at};

@@ -1,5 +1,7 @@
 // a * b / c with its remainder, by way of the whole product of 128 bits.
 
+#![tactic(auto)]
+
 ghost use Rattle.std.specs.Prelude.{◌≡◌, ◌+◌, ◌*◌, ◌/◌, ◌%◌, ◌<◌, ◌≤◌, ◌^◌};
 ghost use Rattle.numbers_wide.specs.Quotients.{Quotient, joined};
 

@@ -1,4 +1,7 @@
 // A pack on standard input: for each entry its length as a word, then its bytes.
+
+#![tactic(auto)]
+
 use numbers::index;
 
 // Fills the lent bytes with an entry. Answers whether there were so many.

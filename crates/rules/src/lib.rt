@@ -1,6 +1,8 @@
 // The answers of the entry points and what one step is worked out from, as plain data. What they hold is defined in specs/:
 // `cut_answer`, `view_answer`, `uplift_answer` and `step_of`. The first two answers are laid out as in C, the 64-bit fields first, so that no byte is left free.
 
+#![tactic(auto)]
+
 // The cutter's answer for one line (document 01, "Steps and prices"). Places past the count are 0.
 #[repr(C)]
 #[derive(Drop)]

@@ -1,4 +1,7 @@
 // Settling: a day's bytes to its book (document 01, "Totals and book").
+
+#![tactic(auto)]
+
 ghost use Rattle.std.specs.Prelude.{◌≡◌, length};
 ghost use Rattle.rules.specs.Refusals.{settle_fault};
 ghost use Rattle.rules.specs.Book.{book_after};

@@ -1,4 +1,7 @@
 // AGINO of a step, carried back from schedule 5 (document 01, "Quantities").
+
+#![tactic(auto)]
+
 ghost use Rattle.std.specs.Prelude.{◌≡◌, ◌<◌, min};
 ghost use Rattle.rules.specs.Fold.{five, at};
 ghost use Rattle.rules.specs.Quantities as rule;

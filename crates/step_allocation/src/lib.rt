@@ -1,4 +1,7 @@
 // What a step takes of a line's totals, and what no step takes of them (document 01, "Quantities"; document 02, F-2).
+
+#![tactic(auto)]
+
 ghost use Rattle.std.specs.Prelude.{◌≡◌};
 ghost use Rattle.rules.specs.Fold.{five, at};
 ghost use Rattle.rules.specs.Quantities.{allocated};

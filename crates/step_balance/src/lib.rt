@@ -1,5 +1,8 @@
 // Whether one step's matches agree with its C, as demand 3 asks (document 01, "Matching"): m are the ten matches, c is C by schedule. What
 // the tests require is what the certificate says, so each is proved to answer true.
+
+#![tactic(auto)]
+
 ghost use Rattle.std.specs.Prelude.{◌≡◌, true, ◌+◌, ◌-◌, ◌<◌, ◌^◌};
 ghost use Rattle.rules.specs.Fold.{at};
 ghost use Rattle.step_balance.specs.Balance.{FallsMatched, RisesBound, Balanced};

@@ -1,2 +1,5 @@
 // What a step is worked out from: the day's and the line's part in it, put together with the cutter's.
+
+#![tactic(auto)]
+
 pub mod inputs;

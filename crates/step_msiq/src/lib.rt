@@ -1,4 +1,7 @@
 // MSIQ of a step, from the last schedule back (document 01, "Quantities").
+
+#![tactic(auto)]
+
 ghost use Rattle.std.specs.Prelude.{◌≡◌, cond, ◌<◌, min};
 ghost use Rattle.rules.specs.Fold.{five, at};
 ghost use Rattle.rules.specs.Quantities as rule;

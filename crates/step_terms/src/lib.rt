@@ -1,4 +1,7 @@
 // A step's price under the administered price cap, and whether it is paid, by schedule.
+
+#![tactic(auto)]
+
 ghost use Rattle.std.specs.Prelude.{◌≡◌};
 ghost use Rattle.rules.specs.Fold.{five};
 ghost use Rattle.step_terms.specs.Terms.{capped_at, capped_in, accredited_in, paid_row};

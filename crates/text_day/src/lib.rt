@@ -1,5 +1,7 @@
 // The settling program's report of a day, written into lent bytes (document 01, K10).
 
+#![tactic(auto)]
+
 ghost use Rattle.std.specs.Prelude.{[], cond, ltb, length};
 ghost use Rattle.rules.specs.Report.{report_text};
 ghost use Rattle.text.specs.Put.{Written};

@@ -1,5 +1,8 @@
 // The lines of the report (document 01, K10), written into lent bytes from a place on.
 // Each function answers the place after its text. `Written` of crate `text` (specs/Put.antt) says what stands in the bytes then.
+
+#![tactic(auto)]
+
 ghost use Rattle.std.specs.Prelude.{◌+◌, ◌≤◌, length};
 ghost use Rattle.rules.specs.Fold.{at_z};
 ghost use Rattle.rules.specs.Report.{side_text};

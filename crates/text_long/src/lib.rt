@@ -1,4 +1,7 @@
 // What the programs print for a file that is longer than any accepted one, from its first bytes and its length.
+
+#![tactic(auto)]
+
 ghost use Rattle.std.specs.Prelude.{◌≡◌, ℕ, ◌≤◌, ◌<◌, List, length};
 ghost use Rattle.rules.specs.Report.{report_text};
 ghost use Rattle.day_header.specs.Long.{Begins};

@@ -1,4 +1,7 @@
 // The settling program's report, read off a book's bytes and written into lent bytes (document 01, K10).
+
+#![tactic(auto)]
+
 ghost use Rattle.std.specs.Prelude.{◌≡◌, ◌+◌, ◌*◌, ◌≤◌, length};
 ghost use Rattle.rules.specs.Fold.{joined};
 ghost use Rattle.rules.specs.Refusals.{book_length};

@@ -1,2 +1,5 @@
 // What the program `steps` prints, in lent bytes.
+
+#![tactic(auto)]
+
 pub mod steps_text;

@@ -1,4 +1,7 @@
 // The uplift program's line of a day, written into lent bytes (document 02, F-1).
+
+#![tactic(auto)]
+
 ghost use Rattle.std.specs.Prelude.{◌≤◌, [], cond, ltb, length};
 ghost use Rattle.rules.specs.Fold.{at_z};
 ghost use Rattle.rules.specs.Report.{uplift_report};

@@ -1,4 +1,7 @@
 // The text of one step's figures, and of a line's excess, written into lent bytes from a place on.
+
+#![tactic(auto)]
+
 ghost use Rattle.std.specs.Prelude.{◌≡◌, ◌+◌, ◌≤◌, ◌<◌, length};
 ghost use Rattle.rules.specs.Fold.{joined};
 ghost use Rattle.text.specs.Put.{Written};

@@ -1,5 +1,8 @@
 // Quantities and prices within document 01's limits, as read from a word, and what each case of a reading stands for: the number of a
 // refusal, and the value.
+
+#![tactic(auto)]
+
 ghost use Rattle.std.specs.Prelude.{◌≡◌, ◌+◌, ◌≤◌, length};
 ghost use Rattle.rules.specs.Layout.{word};
 ghost use Rattle.units.specs.Kinds.{quantity_read, quantity_number, quantity_value, price_read, price_number, price_value};

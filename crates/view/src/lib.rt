@@ -1,4 +1,7 @@
 // The step view: every figure of one step of a day (document 01, "Totals and book"), and of all steps of a line.
+
+#![tactic(auto)]
+
 mod figures;
 pub mod line_views;
 
