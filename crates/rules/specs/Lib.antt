@@ -16,4 +16,3 @@ pub mod Uplift
 pub mod Viewing
 pub mod Book
 pub mod Report
-pub mod Worked
