@@ -11,7 +11,7 @@ use rules::View;
 use view::view;
 
 // What the steps of one line add up to, quantities with their excess. Arrays are by schedule.
-#[derive(Drop)]
+#[derive(Clone, Copy)]
 pub struct LineSums {
     // 0, or the refusal
     pub number: u32,

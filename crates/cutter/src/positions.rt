@@ -11,7 +11,7 @@ use cutter_cursors::cursors::{Sweep, next_gap, passed, start};
 pub const FAR: u32 = 2147483648;
 
 // Before step `step`, counted from 0: its lower end and the gap from there to its upper end, FAR or more after the last step.
-#[derive(Drop)]
+#[derive(Clone, Copy)]
 pub struct Position {
     pub places: Sweep,
     pub lower: u32,

@@ -16,7 +16,7 @@ use std::num::wrapping_sub_u32;
 const PAST: u32 = 4294967295;
 
 // Where each schedule's cursor stands: a step of its bid, counted from 1.
-#[derive(Drop)]
+#[derive(Clone, Copy)]
 pub struct Sweep {
     pub first: usize,
     pub second: usize,

@@ -14,21 +14,21 @@ use layout::bids::{before_price, bid_break, bid_count};
 use numbers::{bit, index};
 
 // A step's uncapped price in one schedule, and its flag: 1 where no break of the bid is at least the step's end.
-#[derive(Drop)]
+#[derive(Clone, Copy)]
 pub struct StepPrice {
     pub price: u32,
     pub flag: u32,
 }
 
 // The same in the five schedules.
-#[derive(Drop)]
+#[derive(Clone, Copy)]
 pub struct StepRows {
     pub price: [u32; 5],
     pub flag: [u32; 5],
 }
 
 // Where each schedule's prices stand: that of bid step `at`, counted from 1, is `at` words after this byte.
-#[derive(Drop)]
+#[derive(Clone, Copy)]
 pub struct Slots {
     pub first: usize,
     pub second: usize,
@@ -38,7 +38,7 @@ pub struct Slots {
 }
 
 // How many steps are flagged in each schedule.
-#[derive(Drop)]
+#[derive(Clone, Copy)]
 pub struct Missing {
     pub first: usize,
     pub second: usize,

@@ -28,7 +28,7 @@ use step_pool::adding::pool_add;
 use step_pool::pool_amounts::SidePool;
 
 // A day's totals t and adjusted totals a.
-#[derive(Drop)]
+#[derive(Clone, Copy)]
 pub struct DayTotals {
     pub t: [i64; 5],
     pub a: [i64; 5],
@@ -60,7 +60,7 @@ fn put_payments(paid: &mut [i64; 320], at: usize, v: [i64; 5])
 }
 
 // The pools of the two sides.
-#[derive(Drop)]
+#[derive(Clone, Copy)]
 pub struct Pools {
     pub injection: SidePool,
     pub withdrawal: SidePool,
@@ -68,7 +68,7 @@ pub struct Pools {
 
 // What the first pass keeps of a line for the second: what `Keeps` says of the first two, and what the line is paid. (In this order a copy by
 // 16 bytes reads what was written by 16.)
-#[derive(Drop)]
+#[derive(Clone, Copy)]
 pub struct KeptLine {
     pub from: Position,
     pub taking: u64,
@@ -76,7 +76,7 @@ pub struct KeptLine {
 }
 
 // What the first pass over a day answers: the pools of the sides, and at place k what is kept of line k.
-#[derive(Drop)]
+#[derive(Clone, Copy)]
 pub struct KeptDay {
     pub pools: Pools,
     pub lines: [KeptLine; 64],

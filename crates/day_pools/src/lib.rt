@@ -39,7 +39,7 @@ use step_pool::pool_amounts::SidePool;
 
 // What the first pass over a line answers: its steps' count and pool, and what it keeps for the second (`Keeps`): where the sweep enters
 // the window, and a word of which bit i is set where step i from there on takes something back.
-#[derive(Drop)]
+#[derive(Clone, Copy)]
 pub struct LinePool {
     pub from: Position,
     pub taking: u64,
@@ -48,7 +48,7 @@ pub struct LinePool {
 }
 
 // What a line is paid in all, and how many steps it has.
-#[derive(Drop)]
+#[derive(Clone, Copy)]
 pub struct LinePaid {
     pub count: u32,
     pub money: Money,

@@ -8,7 +8,7 @@ use step_inputs::inputs::LineTotals;
 use step_pool::skipped_steps::{least, most};
 
 // A step that ends at or below `from` adds nothing to pool or money, nor does one that begins at or above `to`.
-#[derive(Drop)]
+#[derive(Clone, Copy)]
 pub struct Window {
     pub from: u32,
     pub to: u32,

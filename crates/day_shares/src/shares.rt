@@ -14,7 +14,7 @@ use numbers::{saturating_sub64, signed_difference};
 use numbers_wide::{Division, multiply_divide};
 
 // A row of quotients, and for each 1 where the division left a remainder.
-#[derive(Drop)]
+#[derive(Clone, Copy)]
 struct Divided {
     quotients: [u64; 5],
     rests: [u64; 5],

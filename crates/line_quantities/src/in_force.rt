@@ -12,7 +12,7 @@ use layout::records::{record_entry, record_line, record_order, record_schedule};
 use numbers::index;
 
 // The places of the records with the highest order numbers for a line, by schedule.
-#[derive(Drop)]
+#[derive(Clone, Copy)]
 pub struct Places {
     pub of: [usize; 5],
 }

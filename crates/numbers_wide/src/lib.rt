@@ -8,14 +8,14 @@ ghost use Rattle.numbers_wide.specs.Quotients.{Quotient, joined};
 // The radix of product and division: a digit is half a word of 64 bits.
 const RADIX: u64 = 4294967296;
 
-#[derive(Drop)]
+#[derive(Clone, Copy)]
 pub struct Division {
     pub quotient: u64,
     pub remainder: u64,
 }
 
 // high * 2^64 + middle * 2^32 + low
-#[derive(Drop)]
+#[derive(Clone, Copy)]
 struct Product {
     high: u64,
     middle: u32,

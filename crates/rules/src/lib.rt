@@ -5,7 +5,7 @@
 
 // The cutter's answer for one line (document 01, "Steps and prices"). Places past the count are 0.
 #[repr(C)]
-#[derive(Drop)]
+#[derive(Clone, Copy)]
 pub struct Cut {
     // for each schedule a word of missing-price flags, bit k for step k
     pub flags: [u64; 5],
@@ -25,7 +25,7 @@ pub struct Cut {
 
 // What no step of a line took of its operating and pricing totals and of its effective actual (document 02, F-2).
 #[repr(C)]
-#[derive(Drop)]
+#[derive(Clone, Copy)]
 pub struct Excess {
     pub operating: [u32; 5],
     pub pricing: [u32; 5],
@@ -34,7 +34,7 @@ pub struct Excess {
 
 // The step view's answer (document 01, "Totals and book"). Arrays of five are by schedule.
 #[repr(C)]
-#[derive(Drop)]
+#[derive(Clone, Copy)]
 pub struct View {
     // the four kinds of payment
     pub initial: [i64; 5],
@@ -63,7 +63,7 @@ pub struct View {
 }
 
 // Each schedule's uplift (document 02, F-1).
-#[derive(Drop)]
+#[derive(Clone, Copy)]
 pub struct Uplift {
     pub shares: [i64; 5],
     // 0, or the refusal
@@ -71,7 +71,7 @@ pub struct Uplift {
 }
 
 // What one step's figures are worked out from. Arrays are by schedule.
-#[derive(Drop)]
+#[derive(Clone, Copy)]
 pub struct Step {
     // 0 injection, 1 withdrawal
     pub side: u32,

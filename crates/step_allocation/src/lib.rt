@@ -11,14 +11,14 @@ use numbers::{lesser, saturating_sub};
 use rules::Step;
 
 // A quantity allocated to a step: what the step takes, and what no step of the line takes.
-#[derive(Drop)]
+#[derive(Clone, Copy)]
 pub struct Allocation {
     pub taken: u32,
     pub excess: u32,
 }
 
 // The same for the five schedules.
-#[derive(Drop)]
+#[derive(Clone, Copy)]
 pub struct Allocations {
     pub taken: [u32; 5],
     pub excess: [u32; 5],

@@ -11,7 +11,7 @@ use step_payments::given_back::given_back;
 use step_pool::pool_amounts::SidePool;
 
 // T (0 where it isn't above 0 or nothing differs) and B of a side, by schedule.
-#[derive(Drop)]
+#[derive(Clone, Copy)]
 pub struct Shares {
     pub total: [u64; 5],
     pub base: [u64; 5],

@@ -17,7 +17,7 @@ use rules::Step;
 use step_terms::{accredited_row, capped_row, paid_row};
 
 // The market table.
-#[derive(Drop)]
+#[derive(Clone, Copy)]
 pub struct Market {
     pub price: [u32; 5],
     pub mark: [u32; 5],
@@ -26,7 +26,7 @@ pub struct Market {
 }
 
 // What the steps of a line share.
-#[derive(Drop)]
+#[derive(Clone, Copy)]
 pub struct LineTotals {
     pub side: u32,
     pub accredited: [u32; 5],

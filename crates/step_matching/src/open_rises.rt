@@ -5,13 +5,13 @@ ghost use Rattle.step_matching.specs.Ledgers.{entered};
 use numbers::{lesser, saturating_sub};
 
 // What is left of the rises of the schedules before, the latest first. At most four are open before a schedule.
-#[derive(Drop)]
+#[derive(Clone, Copy)]
 pub struct Ledger {
     pub rises: [u32; 4],
 }
 
 // What a schedule takes of each open rise, and the ledger that it leaves.
-#[derive(Drop)]
+#[derive(Clone, Copy)]
 pub struct Matched {
     pub matches: [u32; 4],
     pub next: Ledger,

@@ -2,7 +2,7 @@
 // so that neither is below 0.
 
 // What is paid and what is taken back, by schedule.
-#[derive(Drop)]
+#[derive(Clone, Copy)]
 pub struct Money {
     pub plus: [u64; 5],
     pub minus: [u64; 5],

@@ -1,7 +1,7 @@
 // The pool of a side and the changes that it adds up: definitions, bounds and laws.
 
 // The pool of one side, by schedule.
-#[derive(Drop)]
+#[derive(Clone, Copy)]
 pub struct SidePool {
     // what its revised payments pay and take back: T is their difference
     pub plus: [u64; 5],
@@ -14,7 +14,7 @@ pub struct SidePool {
 }
 
 // A step's paid rises and falls, and what its initial payments pay and take back.
-#[derive(Drop)]
+#[derive(Clone, Copy)]
 pub struct Changes {
     pub rises: [u32; 5],
     pub falls: [u32; 5],
@@ -23,7 +23,7 @@ pub struct Changes {
 }
 
 // A pool with a step more, and 1 where an initial payment of that step takes something back.
-#[derive(Drop)]
+#[derive(Clone, Copy)]
 pub struct PoolStep {
     pub pool: SidePool,
     pub takes: u64,

@@ -13,7 +13,7 @@ use step_allocation::{actual_on, operating_on, pricing_on, taken, taken_row};
 use step_msiq::msiq;
 
 // The quantities of one step. Arrays are by schedule.
-#[derive(Drop)]
+#[derive(Clone, Copy)]
 pub struct StepQuantities {
     // O, E, A
     pub operating: [u32; 5],

@@ -8,13 +8,13 @@ ghost use Rattle.rules.specs.Layout.{word};
 ghost use Rattle.units.specs.Kinds.{quantity_read, quantity_number, quantity_value, price_read, price_number, price_value};
 
 // whole MJ
-#[derive(Drop)]
+#[derive(Clone, Copy)]
 pub struct Quantity {
     pub mj: u32,
 }
 
 // What reading a quantity finds.
-#[derive(Drop)]
+#[derive(Clone, Copy)]
 pub enum QuantityRead {
     Within(Quantity),
     Above,
@@ -57,13 +57,13 @@ pub fn quantity_value(read: QuantityRead) -> u32
 }
 
 // whole units of $0.0001 per GJ
-#[derive(Drop)]
+#[derive(Clone, Copy)]
 pub struct Price {
     pub units: u32,
 }
 
 // What reading a price finds.
-#[derive(Drop)]
+#[derive(Clone, Copy)]
 pub enum PriceRead {
     Within(Price),
     Above,

@@ -27,7 +27,7 @@ use step_pool::skipped_steps::changes_on;
 use step_quantities::constrained::quantities_on;
 
 // The payments of a step, by schedule.
-#[derive(Drop)]
+#[derive(Clone, Copy)]
 struct StepPayments {
     initial: [i64; 5],
     revised: [i64; 5],

@@ -13,7 +13,7 @@ use rules::View;
 use step_inputs::inputs::{market_of, totals_of};
 
 // A line's number, how many steps it has, and the places given, with the views of the steps in the first of them.
-#[derive(Drop)]
+#[derive(Clone, Copy)]
 pub struct StepViews {
     pub number: u32,
     pub count: usize,
