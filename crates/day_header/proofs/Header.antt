@@ -158,13 +158,13 @@ pub record Within (d : List ℕ) (k : ℕ) : Type 0 where
 
 part_both : (d : List ℕ) (k : ℕ) → line_part_fault d k ≡ 0 → Rattle.laws.specs.Folds.Both (header_fault d) (refuse 16 (leb (line_count d) k))
 unfolding line_part_fault
-part_both d k e = Rattle.laws.specs.Folds.or_else-both _ _ e
+part_both d k e = Rattle.laws.specs.Folds.or_else_both _ _ e
 
 pub part_bounds : (d : List ℕ) (k x : ℕ) → x ≡ line_part_fault d k → x ≡ 0 → Within d k
 part_bounds d k x e h =
     let b = part_both d k (sym e ∙ h) in
     let a = accepted_header d b.left in
-    let l = borrow.Author.Tests.leb-false (line_count d) k (Rattle.laws.specs.Folds.refuse-zero 15 _ b.right) in
+    let l = borrow.Author.Tests.leb-false (line_count d) k (Rattle.laws.specs.Folds.refuse_zero 15 _ b.right) in
     record {
       header_least = omega (arith, a.length_least);
       line_most_lem = omega (arith, a.count_most);
