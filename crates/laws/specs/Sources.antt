@@ -37,16 +37,15 @@ pub source_pulled : (w : List ℕ) (s : ℕ) → bid_count w (suc s) ≡ 0 → s
 unfolding source
 source_pulled w s h = rw (eq-eqb (bid_count w (suc s)) 0 h)
 
-own_nearest : (w : List ℕ) (s : ℕ) → 0 < bid_count w s → Nearest w s (source w s)
-own_nearest w s h =
-    rw (source_own w s h) (record { within = omega arith; some = h; pulled = λ t l m. absurd (omega arith) })
-
 -- so it is the nearest
 pub nearest : (w : List ℕ) → AcceptedLine w → (s : ℕ) → s < 5 → Nearest w s (source w s)
-nearest w h zero l = own_nearest w zero ((h.bids 0 l).count_first refl)
+nearest w h zero l =
+    let n = (h.bids 0 l).count_first refl in
+    rw (source_own w zero n) (record { within = omega arith; some = n; pulled = λ t a b. absurd (omega arith) })
 nearest w h (suc s) l =
     elim (dec_lt 0 (bid_count w (suc s))) [
-      | yes c ↦ own_nearest w (suc s) c
+      | yes c ↦
+          rw (source_own w (suc s) c) (record { within = omega arith; some = c; pulled = λ t a b. absurd (omega arith) })
       | no c ↦
           let e : bid_count w (suc s) ≡ 0 = omega arith in
           let r = nearest w h s (omega arith) in
@@ -62,6 +61,10 @@ nearest w h (suc s) l =
                 ];
           })
     ]
+
+own_nearest : (w : List ℕ) (s : ℕ) → 0 < bid_count w s → Nearest w s (source w s)
+own_nearest w s h =
+    rw (source_own w s h) (record { within = omega arith; some = h; pulled = λ t l m. absurd (omega arith) })
 
 -- where a bid was not pulled, its prices and refusals are those that document 01 alone has: "If there is none, the price is the bid's last
 -- price", "7: bid count 0 or above 11"
