@@ -14,39 +14,35 @@ pub returns-then-s-eq0 : goal.returns-then-s-eq0
 returns-then-s-eq0 c =
     let t = c.args.t in
     let s = c.args.s in
-    let p = c.requires in
     let first : is_kept t s ≡ true = rw c.if-s-eq0.true in
-    let e = rw (read_back p.1.1.0 (least_fits t p.0 s p.1.0)) at c.kept.ensures in
-    read_back (e ∙ sym (adjusted_kept t s first)) (adjusted_fits t p.0 s p.1.0)
+    let e = rw (read_back c.requires.least_value (least_fits t c.requires.bounded s c.requires.s_bound)) at c.kept.ensures in
+    read_back (e ∙ sym (adjusted_kept t s first)) (adjusted_fits t c.requires.bounded s c.requires.s_bound)
 
 pub returns-then-own-ge0 : goal.returns-then-own-ge0
 returns-then-own-ge0 c =
     let t = c.args.t in
     let s = c.args.s in
-    let p = c.requires in
-    let own = read_back {x = at_z t s} refl (total_fits t p.0 s p.1.0) in
+    let own = read_back {x = at_z t s} refl (total_fits t c.requires.bounded s c.requires.s_bound) in
     let sign : non_neg (at_z t s) ≡ true = sym (zero_le_z (at_z t s)) ∙ rw own at c.if-own-ge0.true in
     let kept : is_kept t s ≡ true = rw (ne_eqb s 0 c.if-s-eq0.false, sign) in
-    let e = rw (read_back p.1.1.0 (least_fits t p.0 s p.1.0)) at c.kept-then-own-ge0.ensures in
-    read_back (e ∙ sym (adjusted_kept t s kept)) (adjusted_fits t p.0 s p.1.0)
+    let e = rw (read_back c.requires.least_value (least_fits t c.requires.bounded s c.requires.s_bound)) at c.kept-then-own-ge0.ensures in
+    read_back (e ∙ sym (adjusted_kept t s kept)) (adjusted_fits t c.requires.bounded s c.requires.s_bound)
 
 pub owed-requires : goal.owed-requires
 owed-requires c =
     let t = c.args.t in
     let s = c.args.s in
-    let p = c.requires in
     simp (
-      read_back {x = at_z t s} refl (total_fits t p.0 s p.1.0),
-      read_back p.1.1.1 (carried_fits t p.0 s (omega arith)),
-    ) (owed_sum_fits t p.0 s p.1.0)
+      read_back {x = at_z t s} refl (total_fits t c.requires.bounded s c.requires.s_bound),
+      read_back c.requires.left_value (carried_fits t c.requires.bounded s (omega arith)),
+    ) (owed_sum_fits t c.requires.bounded s c.requires.s_bound)
 
 pub returns : goal.returns
 returns c =
     let t = c.args.t in
     let s = c.args.s in
-    let p = c.requires in
-    let own = read_back {x = at_z t s} refl (total_fits t p.0 s p.1.0) in
+    let own = read_back {x = at_z t s} refl (total_fits t c.requires.bounded s c.requires.s_bound) in
     let sign : non_neg (at_z t s) ≡ false = sym (zero_le_z (at_z t s)) ∙ rw own at c.if-own-ge0.false in
     let owed : is_kept t s ≡ false = rw (ne_eqb s 0 c.if-s-eq0.false, sign) in
-    let e = rw (own, read_back p.1.1.1 (carried_fits t p.0 s (omega arith))) at c.owed.ensures in
-    read_back (e ∙ sym (adjusted_owed t s owed)) (adjusted_fits t p.0 s p.1.0)
+    let e = rw (own, read_back c.requires.left_value (carried_fits t c.requires.bounded s (omega arith))) at c.owed.ensures in
+    read_back (e ∙ sym (adjusted_owed t s owed)) (adjusted_fits t c.requires.bounded s c.requires.s_bound)

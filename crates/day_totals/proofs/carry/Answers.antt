@@ -16,8 +16,8 @@ overflow_sub-rest c =
     let t = c.args.t in
     let s = c.args.s in
     let b = c.requires.bounded in
-    let l = c.requires.s_bound.0 in
-    rw (read_back {x = at_z t s} refl (total_fits t b s l), read_back c.requires.s_bound.1.1 (adjusted_fits t b s l))
+    let l = c.requires.s_bound in
+    rw (read_back {x = at_z t s} refl (total_fits t b s l), read_back c.requires.share_value (adjusted_fits t b s l))
     (rest_fits t b s l)
 
 pub overflow_add-result : goal.overflow_add-result
@@ -25,11 +25,11 @@ overflow_add-result c =
     let t = c.args.t in
     let s = c.args.s in
     let b = c.requires.bounded in
-    let l = c.requires.s_bound.0 in
-    rw (read_back {x = at_z t s} refl (total_fits t b s l), read_back c.requires.s_bound.1.1 (adjusted_fits t b s l))
+    let l = c.requires.s_bound in
+    rw (read_back {x = at_z t s} refl (total_fits t b s l), read_back c.requires.share_value (adjusted_fits t b s l))
     (rw (
       read_back {x = at_z t s -ℤ adjusted t s} refl (rest_fits t b s l),
-      read_back c.requires.s_bound.1.0 (carried_fits t b s (omega arith)),
+      read_back c.requires.left_value (carried_fits t b s (omega arith)),
     )
     (rw carried_step at (carried_fits t b (suc s) l)))
 
@@ -38,12 +38,12 @@ returns c =
     let t = c.args.t in
     let s = c.args.s in
     let b = c.requires.bounded in
-    let l = c.requires.s_bound.0 in
+    let l = c.requires.s_bound in
     let next = sym (carried_step t s) in
-    rw (read_back {x = at_z t s} refl (total_fits t b s l), read_back c.requires.s_bound.1.1 (adjusted_fits t b s l))
+    rw (read_back {x = at_z t s} refl (total_fits t b s l), read_back c.requires.share_value (adjusted_fits t b s l))
     (rw (
       read_back {x = at_z t s -ℤ adjusted t s} refl (rest_fits t b s l),
-      read_back c.requires.s_bound.1.0 (carried_fits t b s (omega arith)),
+      read_back c.requires.left_value (carried_fits t b s (omega arith)),
       add-one s,
     )
     (read_back next (carried_fits t b (suc s) l)))

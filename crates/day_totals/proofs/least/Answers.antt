@@ -23,31 +23,30 @@ record Locals (t : List ℤ) (s : ℕ) (later : ℤ) : Type 0 where
   next : to_z w64 (of_z w64 later) ≡ least_of t (s + 1)
   sum : to_z w64 (of_z w64 (sum_of t s)) ≡ sum_of t s
 
-locals : (t : List ℤ) (s : ℕ) (later : ℤ) → Bounded t × ((s < 4) × (later ≡ least_of t (s + 1))) → Locals t s later
-locals t s later p =
-    let l = p.1.0 in
+locals : (t : List ℤ) (s : ℕ) (later : ℤ) → Bounded t → s < 4 → later ≡ least_of t (s + 1) → Locals t s later
+locals t s later b l e =
     record {
-      own = read_back refl (total_fits t p.0 s (omega arith));
-      next = read_back p.1.1 (least_fits t p.0 (s + 1) (omega arith));
-      sum = read_back refl (least_sum_fits t p.0 s l);
+      own = read_back refl (total_fits t b s (omega arith));
+      next = read_back e (least_fits t b (s + 1) (omega arith));
+      sum = read_back refl (least_sum_fits t b s l);
     }
 
 pub overflow_add-sum : goal.overflow_add-sum
 overflow_add-sum c =
     let a = c.args in
-    let r = locals a.t a.s a.later c.requires in
-    simp (r.own, r.next) (least_sum_fits a.t c.requires.bounded a.s c.requires.s_bound.0)
+    let r = locals a.t a.s a.later c.requires.bounded c.requires.s_bound c.requires.later_value in
+    simp (r.own, r.next) (least_sum_fits a.t c.requires.bounded a.s c.requires.s_bound)
 
 pub returns-then-own-sum : goal.returns-then-own-sum
 returns-then-own-sum c =
     let a = c.args in
-    let r = locals a.t a.s a.later c.requires in
+    let r = locals a.t a.s a.later c.requires.bounded c.requires.s_bound c.requires.later_value in
     let e : le_z (at_z a.t a.s) (sum_of a.t a.s) ≡ true = simp (r.own, r.next, r.sum) at c.if-own-sum.true in
-    rw (r.own, least_step a.t a.s c.requires.s_bound.0, e)
+    rw (r.own, least_step a.t a.s c.requires.s_bound, e)
 
 pub returns : goal.returns
 returns c =
     let a = c.args in
-    let r = locals a.t a.s a.later c.requires in
+    let r = locals a.t a.s a.later c.requires.bounded c.requires.s_bound c.requires.later_value in
     let e : le_z (at_z a.t a.s) (sum_of a.t a.s) ≡ false = simp (r.own, r.next, r.sum) at c.if-own-sum.false in
-    rw (r.own, r.next, r.sum, least_step a.t a.s c.requires.s_bound.0, e)
+    rw (r.own, r.next, r.sum, least_step a.t a.s c.requires.s_bound, e)
