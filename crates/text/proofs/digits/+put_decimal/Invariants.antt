@@ -1,0 +1,5 @@
+-- The number falls: the digits before the last one are those of a tenth.
+use Rattle.text.proofs.digits.+put_decimal.Given as goal
+
+abbrev pub decreases-put_decimal : goal.decreases-put_decimal
+decreases-put_decimal l = l.v
