@@ -4,6 +4,9 @@
 #![tactic(auto)]
 
 use numbers::wide;
+use std::io;
+use std::io::Write;
+use streams::read_full;
 
 fn size(v: usize) -> u64 {
     v as u64
@@ -13,50 +16,51 @@ fn byte(v: u8) -> u64 {
     v as u64
 }
 
-fn print(v: u64) {
-    io::write_all(1, b" ");
-    io::print_decimal(1, v);
+fn print<W: Write>(output: &mut W, v: u64) -> io::Result<()> {
+    write!(output, " {v}")
 }
 
-fn show(day: &[u8], k: usize) {
+fn show<W: Write>(output: &mut W, day: &[u8], k: usize) -> io::Result<()> {
     let part = day_header::line_part(day, k);
-    io::print_decimal(1, size(k));
-    print(wide(day_header::line_part_number(day, k)));
-    print(size(part.len()));
+    let first = size(k);
+    write!(output, "{first}")?;
+    print(output, wide(day_header::line_part_number(day, k)))?;
+    print(output, size(part.len()))?;
     if part.len() > 3 {
-        print(byte(part[0]));
-        print(byte(part[1]));
-        print(byte(part[2]));
-        print(byte(part[3]));
+        print(output, byte(part[0]))?;
+        print(output, byte(part[1]))?;
+        print(output, byte(part[2]))?;
+        print(output, byte(part[3]))?;
     }
-    io::write_all(1, b"\n");
+    output.write_all(b"\n")
 }
 
 // Lines of the day's three, the first beyond them, and the greatest numbers there are.
-fn show_lines(day: &[u8]) {
-    show(day, 0);
-    show(day, 1);
-    show(day, 2);
-    show(day, 3);
-    show(day, 4);
-    show(day, 9223372036854775808);
-    show(day, 18446744073709551615);
+fn show_lines<W: Write>(output: &mut W, day: &[u8]) -> io::Result<()> {
+    show(output, day, 0)?;
+    show(output, day, 1)?;
+    show(output, day, 2)?;
+    show(output, day, 3)?;
+    show(output, day, 4)?;
+    show(output, day, 9223372036854775808)?;
+    show(output, day, 18446744073709551615)
 }
 
 // Parts of the bytes read that are refused as a day: too short, of another length than the header says, and with too many lines.
-fn show_refused(space: &[u8]) {
+fn show_refused<W: Write>(output: &mut W, space: &[u8]) -> io::Result<()> {
     if space.len() < 64 {
-        return;
+        return Ok(());
     }
-    show(&space[0..0], 0);
-    show(&space[0..63], 0);
-    show(&space[0..64], 0);
-    show(&space[1..], 18446744073709551615);
+    show(output, &space[0..0], 0)?;
+    show(output, &space[0..63], 0)?;
+    show(output, &space[0..64], 0)?;
+    show(output, &space[1..], 18446744073709551615)
 }
 
-fn main() {
-    let mut space = io::buffer();
-    let length = io::read_full(0, &mut space);
-    show_lines(&space[..length]);
-    show_refused(&space);
+fn main(rt: HostRuntime) -> io::Result<()> {
+    let mut space = [0u8; 4096];
+    let length = read_full(&mut rt.stdin(), &mut space)?;
+    let mut output = rt.stdout();
+    show_lines(&mut output, &space[..length])?;
+    show_refused(&mut output, &space)
 }

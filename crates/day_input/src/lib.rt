@@ -1,60 +1,68 @@
-// A day on standard input that goes on after its first bytes, which fill a buffer of 65,536: no accepted day is as long, but the number of
+// A day on a stream that goes on after its first bytes, which fill a buffer of 65,536: no accepted day is as long, but the number of
 // a longer one depends on its length.
 
 #![tactic(auto)]
 
-ghost use Rattle.std.specs.Prelude.{◌≡◌, false, ◌≤◌, ◌<◌, length};
+ghost use Rattle.std.specs.Prelude.{◌≡◌, false, ◌≤◌, ◌<◌, length, IfOk};
 
+use std::io;
+use std::io::{Read, Write};
+use streams::read_full;
 use text_long::put_long;
 
 // How many bytes the next read gives, which are not kept.
-fn next() -> usize
-    ensures { result ≤ 4096 }
+fn next<R: Read>(input: &mut R) -> io::Result<usize>
+    ensures { IfOk result (λ n. n ≤ 4096) }
 {
-    let mut space = io::buffer();
-    io::read_full(libc::STDIN_FILENO, &mut space)
+    let mut space = [0u8; 4096];
+    read_full(input, &mut space)
 }
 
-// How many bytes are left on standard input, counted up to 2^44: no header says as many. The loop maintains that they are at most 4,096 for
+// How many bytes are left on the stream, counted up to 2^44: no header says as many. The loop maintains that they are at most 4,096 for
 // each turn.
-fn rest() -> usize
-    ensures { result ≤ 17592186044416 }
+fn rest<R: Read>(input: &mut R) -> io::Result<usize>
+    ensures { IfOk result (λ n. n ≤ 17592186044416) }
 {
     let mut total: usize = 0;
     let mut turns: u64 = 0;
     while turns < 4294967296 {
-        let n = next();
+        let n = next(input)?;
         total += n;
         if n < 4096 {
-            return total;
+            return Ok(total);
         }
         turns += 1;
     }
-    total
+    Ok(total)
 }
 
 // The same after a first read of `n` bytes: where that did not fill its buffer, the input has ended.
-fn left(n: usize) -> usize
-    ensures upper_bound { result ≤ 17592186044416 }
-    ensures value { n < 65536 → result ≡ 0 }
+fn left<R: Read>(input: &mut R, n: usize) -> io::Result<usize>
+    ensures upper_bound { IfOk result (λ m. m ≤ 17592186044416) }
+    ensures value { IfOk result (λ m. n < 65536 → m ≡ 0) }
 {
     if n < 65536 {
-        return 0;
+        return Ok(0);
     }
-    rest()
+    rest(input)
 }
 
-// Whether the day goes on after the `n` bytes that were read: then it is refused, and the refusal is printed.
-pub fn refused_long(buffer: &[u8], n: usize) -> bool
+// Whether the day goes on after the `n` bytes that were read: then it is refused, and the refusal is written.
+pub fn refused_long<R: Read, W: Write>(
+    input: &mut R,
+    output: &mut W,
+    buffer: &[u8],
+    n: usize,
+) -> io::Result<bool>
     requires { (65536 ≤ length buffer.now) × (n ≤ 65536) }
-    ensures { n < 65536 → result ≡ false }
+    ensures { IfOk result (λ more. n < 65536 → more ≡ false) }
 {
-    let more = left(n);
+    let more = left(input, n)?;
     if more == 0 {
-        return false;
+        return Ok(false);
     }
     let mut out = [0u8; 32];
     let end = put_long(&mut out, buffer, n + more);
-    io::write_all(libc::STDOUT_FILENO, &out[..end]);
-    true
+    output.write_all(&out[..end])?;
+    Ok(true)
 }

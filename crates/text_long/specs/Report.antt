@@ -1,6 +1,6 @@
 -- The report of a file that is longer than any accepted one is its refusal.
 use Rattle.std.specs.Prelude.{ℕ, ◌<◌, ◌≡◌, List, length}
-use Rattle.std.proofs.Common.{sym, ◌∙◌, ap, subst, ne_eqb}
+use Rattle.std.proofs.Common.{◌∙◌, ap, subst, ne_eqb}
 use Rattle.rules.specs.Refusals.{day_fault}
 use Rattle.rules.specs.Report.{refused_line, report_text}
 use Rattle.day_header.specs.Long.{long_refused}
