@@ -2,9 +2,13 @@
 
 #![tactic(auto)]
 
-fn main() {
-    let mut line = io::large_buffer();
-    let n = io::read_full(libc::STDIN_FILENO, &mut line);
-    let mut out = io::large_buffer();
-    cutter_text::answer::print_line(&mut out, &line[..n]);
+use cutter_text::answer::print_line;
+use std::io;
+use streams::read_full;
+
+fn main(rt: HostRuntime) -> io::Result<()> {
+    let mut line = [0u8; 65536];
+    let n = read_full(&mut rt.stdin(), &mut line)?;
+    let mut out = [0u8; 65536];
+    print_line(&mut rt.stdout(), &mut out, &line[..n])
 }

@@ -1,6 +1,7 @@
 // The text of the cutter's answer for one line: `cut COUNT`, for each step `END P1 P2 P3 P4 P5`, `flags F1 .. F5`,
 // `missing N1 .. N5`; or `refused` and the number. Each function answers the place after its text.
-ghost use Rattle.std.specs.Prelude.{◌≡◌, ◌≤◌, length};
+ghost use Rattle.std.specs.Prelude.{◌≡◌, ◌≤◌, length, OnOk};
+ghost use Rattle.std.specs.Io.KnownBytes.{Appends};
 ghost use Rattle.std.proofs.lemmas.List.Edits.{sets};
 ghost use Rattle.rules.specs.Cutting.{cut_answer};
 ghost use Rattle.text.specs.Put.{Written};
@@ -10,6 +11,8 @@ use crate::rows::{put_count, put_row, put_steps};
 use cutter::cut;
 use numbers::widened;
 use rules::Cut;
+use std::io;
+use std::io::Write;
 use text::refused::put_refused;
 
 // The bytes that no answer's text passes.
@@ -42,9 +45,7 @@ fn put_cut(out: &mut [u8], r: Cut) -> usize
 // The text of a line's cut, at the front of the lent bytes. Answers how many it takes, and 0 with nothing written where fewer than
 // `TEXT_MOST` are lent.
 pub fn put_line(out: &mut [u8], line: &[u8]) -> usize
-    ensures* { do
-      lent ← (⟦out.len()⟧).entry
-      ⌜ Written lent out.old 0 (lent_text (cut_answer line.now) lent) result out.new ⌝ }
+    ensures { Written (length out.old) out.old 0 (lent_text (cut_answer line.now) (length out.old)) result out.new }
 {
     if out.len() < TEXT_MOST {
         return 0;
@@ -52,12 +53,11 @@ pub fn put_line(out: &mut [u8], line: &[u8]) -> usize
     put_cut(out, cut(line))
 }
 
-// Prints the text of a line's cut, made at the front of the lent bytes. Answers whether all of it was written.
-pub fn print_line(out: &mut [u8], line: &[u8]) -> bool
-    ensures* { do
-      lent ← (⟦out.len()⟧).entry
-      ⌜ out.new ≡ sets out.old 0 (lent_text (cut_answer line.now) lent) ⌝ }
+// Prints the text of a line's cut, made at the front of the lent bytes.
+pub fn print_line<W: Write>(output: &mut W, out: &mut [u8], line: &[u8]) -> io::Result<()>
+    ensures made { out.new ≡ sets out.old 0 (lent_text (cut_answer line.now) (length out.old)) }
+    ensures printed { OnOk result (Appends (W.contents output.old) (W.contents output.new) (lent_text (cut_answer line.now) (length out.old))) }
 {
     let end = put_line(out, line);
-    io::write_all(libc::STDOUT_FILENO, &out[..end])
+    output.write_all(&out[..end])
 }

@@ -3,13 +3,21 @@
 
 #![tactic(auto)]
 
-fn main() {
-    let mut buffer = io::large_buffer();
-    let n = io::read_full(libc::STDIN_FILENO, &mut buffer);
-    if day_input::refused_long(&buffer, n) {
-        return;
+use day_input::refused_long;
+use std::io;
+use std::io::Write;
+use streams::read_full;
+use text_day::day_report;
+
+fn main(rt: HostRuntime) -> io::Result<()> {
+    let mut input = rt.stdin();
+    let mut output = rt.stdout();
+    let mut buffer = [0u8; 65536];
+    let n = read_full(&mut input, &mut buffer)?;
+    if refused_long(&mut input, &mut output, &buffer, n)? {
+        return Ok(());
     }
     let mut out = [0u8; 12288];
-    let end = text_day::day_report(&buffer[..n], &mut out);
-    io::write_all(libc::STDOUT_FILENO, &out[..end]);
+    let end = day_report(&buffer[..n], &mut out);
+    output.write_all(&out[..end])
 }

@@ -5,11 +5,18 @@
 
 #![tactic(auto)]
 
-fn main() {
-    let mut buffer = io::large_buffer();
-    let n = io::read_full(libc::STDIN_FILENO, &mut buffer);
-    if day_input::refused_long(&buffer, n) {
-        return;
+use day_input::refused_long;
+use std::io;
+use streams::read_full;
+use text_steps::steps_text::print;
+
+fn main(rt: HostRuntime) -> io::Result<()> {
+    let mut input = rt.stdin();
+    let mut output = rt.stdout();
+    let mut buffer = [0u8; 65536];
+    let n = read_full(&mut input, &mut buffer)?;
+    if refused_long(&mut input, &mut output, &buffer, n)? {
+        return Ok(());
     }
-    text_steps::steps_text::print(&buffer[..n])
+    print(&mut output, &buffer[..n])
 }

@@ -1,7 +1,8 @@
 -- What a writing function answers: its text put into the lent bytes from a place on (`sets`), and the place after it.
 use Rattle.std.specs.Prelude.{ℕ, zero, suc, ◌+◌, ◌*◌, ◌≤◌, ◌<◌, ◌≡◌, refl, List, [], ◌∷◌, ◌++◌, length, set, take, get_or}
 use Rattle.std.proofs.Common.{add-zero, mul-suc, add-one, arith, sym, ◌∙◌, ap, length-append, take-suc, take_all}
-use Rattle.std.proofs.lemmas.List.Edits.{sets}
+use Rattle.std.proofs.lemmas.List.Edits.{sets, sets-eq}
+use lib.Seq.{length-sets, take-append_seam}
 use Rattle.rules.specs.Fold.{joined}
 use Rattle.laws.specs.Folds.{joined_none, joined_suc, joined_more}
 
@@ -58,6 +59,18 @@ written_more {l} {m} {at} t i w h =
 
 pub written_all : {l m : List ℕ} {at r : ℕ} (t : List ℕ) (i : ℕ) → Written i l at (take i t) r m → length t ≤ i → Written (length t) l at t r m
 written_all t i w h = written_within (written_as (take_all i t h) w) (omega arith)
+
+-- a text put at the front stands there
+front_of : (l t : List ℕ) (n : ℕ) → n ≡ length t → n ≤ length l → take n (sets l 0 t) ≡ t
+front_of l t n e h =
+    let z : 0 + length t ≤ length l = omega arith in
+    rw (sets-eq t l 0 z, e) (take-append_seam t _)
+
+pub written_front : {l m : List ℕ} {r i : ℕ} {t : List ℕ} → Written i l 0 t r m → r ≤ length m → take r m ≡ t
+written_front {l} {m} {r} {i} {t} w h =
+    let long : length m ≡ length l = ap length w.bytes ∙ length-sets l 0 t in
+    let end : r ≡ length t = omega (arith, w.end) in
+    rw w.bytes (front_of l t r end (omega arith))
 
 -- a row of texts, each of at most i bytes: none, and one more
 pub row_none : (f : ℕ → List ℕ) (l : List ℕ) (i at : ℕ) → Written (i * 0) l at (joined 0 f) at l

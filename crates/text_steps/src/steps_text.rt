@@ -1,17 +1,20 @@
 // What the program `steps` prints, written into lent bytes: for each line of a day its heading, for each of its steps the figures that
 // the step view answers, and its excess.
-ghost use Rattle.std.specs.Prelude.{◌≡◌, ◌+◌, ◌*◌, ◌≤◌, ◌<◌, length};
+ghost use Rattle.std.specs.Prelude.{◌≡◌, ◌+◌, ◌*◌, ◌≤◌, ◌<◌, length, OnOk};
+ghost use Rattle.std.specs.Io.KnownBytes.{Appends};
 ghost use Rattle.rules.specs.Fold.{joined};
 ghost use Rattle.rules.specs.Layout.{line_count};
 ghost use Rattle.rules.specs.Steps.{step_count};
 ghost use Rattle.rules.specs.Refusals.{day_fault};
 ghost use Rattle.text.specs.Put.{Written};
-ghost use Rattle.text_steps.specs.Text.{place_text, line_head, line_steps, part_of};
+ghost use Rattle.text_steps.specs.Text.{place_text, line_head, line_steps, part_of, steps_text};
 
 use day::day_number;
 use layout::fields::{participant, point, side};
 use layout::header::{line_count, line_of};
 use rules::View;
+use std::io;
+use std::io::Write;
 use text::digits::{put_byte, put_bytes, put_decimal};
 use text::refused::put_refused;
 use text_lines::{put_ids, put_side_steps};
@@ -70,9 +73,7 @@ fn put_line(out: &mut [u8], at: usize, day: &[u8], k: usize) -> usize
 // part 0.
 // It answers how many bytes it put. It puts none past the last part, and where fewer than `PART_MOST` are lent.
 pub fn part(day: &[u8], k: usize, out: &mut [u8]) -> usize
-    ensures* { do
-      lent ← (⟦out.len()⟧).entry
-      ⌜ Written lent out.old 0 (part_of day.now k lent) result out.new ⌝ }
+    ensures { Written (length out.old) out.old 0 (part_of day.now k (length out.old)) result out.new }
 {
     if out.len() < PART_MOST {
         return 0;
@@ -90,26 +91,37 @@ pub fn part(day: &[u8], k: usize, out: &mut [u8]) -> usize
     put_line(out, 0, day, k)
 }
 
-// Prints the lines of an accepted day by way of the lent bytes. The first k are printed after k turns, which no contract can say.
-fn print_lines(day: &[u8], out: &mut [u8])
+// Prints line k of an accepted day by way of the lent bytes.
+fn print_line<W: Write>(output: &mut W, day: &[u8], k: usize, out: &mut [u8]) -> io::Result<()>
+    requires { (day_fault day.now ≡ 0) × (k < line_count day.now) × (89228 ≤ length out.old) }
+    ensures { OnOk result (Appends (W.contents output.old) (W.contents output.new) (line_steps day.now k)) }
+{
+    let end = put_line(out, 0, day, k);
+    output.write_all(&out[..end])
+}
+
+// Prints the lines of an accepted day by way of the lent bytes. The loop maintains that the first k are printed.
+fn print_lines<W: Write>(output: &mut W, day: &[u8], out: &mut [u8]) -> io::Result<()>
     requires { (day_fault day.now ≡ 0) × (89228 ≤ length out.old) }
+    ensures { OnOk result (Appends (W.contents output.old) (W.contents output.new) (joined (line_count day.now) (line_steps day.now))) }
 {
     let n = line_count(day);
     let mut k = 0;
     while k < n {
-        let end = put_line(out, 0, day, k);
-        io::write_all(libc::STDOUT_FILENO, &out[..end]);
+        print_line(output, day, k, out)?;
         k += 1;
     }
+    Ok(())
 }
 
-// Prints the text of a day on standard output: of a refused day its part 0, which is the refusal, else its lines. The day is checked once.
-pub fn print(day: &[u8]) {
+// Prints the text of a day: of a refused day its part 0, which is the refusal, else its lines. The day is checked once.
+pub fn print<W: Write>(output: &mut W, day: &[u8]) -> io::Result<()>
+    ensures { OnOk result (Appends (W.contents output.old) (W.contents output.new) (steps_text day.now)) }
+{
     let mut out = [0u8; PART_MOST];
     if day_number(day) != 0 {
         let end = part(day, 0, &mut out);
-        io::write_all(libc::STDOUT_FILENO, &out[..end]);
-        return;
+        return output.write_all(&out[..end]);
     }
-    print_lines(day, &mut out)
+    print_lines(output, day, &mut out)
 }
