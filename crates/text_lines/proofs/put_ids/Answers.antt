@@ -1,0 +1,10 @@
+-- `text_lines::put_ids` meets its contract: the texts that its calls put, one after another.
+use borrow.Author.Rules.{rules}
+use Rattle.text.specs.Put.{then}
+use Rattle.text_lines.specs.Lines.{line_ids}
+use Rattle.text_lines.proofs.put_ids.Goals as goal
+
+pub returns : goal.returns
+unfolding line_ids
+returns c =
+    then (then c.put_decimal-a.ensures c.put_byte-b.ensures) c.put_decimal.ensures

@@ -1,0 +1,13 @@
+-- `text_lines::put_side` meets its contract: by the side.
+use borrow.Author.Rules.{rules}
+use Rattle.text.specs.Put.{written_as}
+use Rattle.text_lines.specs.Lines.{side_withdrawal, side_injection}
+use Rattle.text_lines.proofs.put_side.Goals as goal
+
+pub returns-then-side-eq1 : goal.returns-then-side-eq1
+returns-then-side-eq1 c =
+    written_as (side_withdrawal _ c.if-side-eq1.true) c.put_bytes.ensures
+
+pub returns : goal.returns
+returns c =
+    written_as (side_injection _ c.if-side-eq1.false) c.put_bytes-2.ensures
