@@ -45,7 +45,12 @@ multiples n c k h l =
 module _ {n b' c' q r : ℕ} (a b c k : ℕ) (some : 0 < c) (times : 0 < k) (t : Quotient n c' q r) (product : n ≡ a * b') (b-is : b' ≡ b * k) (c-is : c' ≡ c * k) where
   pub scaled : (q ≡ a * b / c) × (r / k ≡ a * b % c)
   scaled =
-      let m = multiples (a * b) c k some times in
+      let m : Quotient (a * b * k) (c * k) (a * b / c) (a * b % c * k) =
+          record {
+            whole = omega (arith, ap (λ (x : ℕ). x * k) (div-add-mod' (a * b) c));
+            below = mul-lt-mul_of_pos_right (mod-lt (a * b) some) times;
+          }
+      in
       let e : n ≡ a * b * k = omega (arith, ap (λ (x : ℕ). a * x) b-is) in
       let u : Quotient (a * b * k) (c * k) q r = rw (← e, ← c-is) t in (
         quotient_is u ∙ sym (quotient_is m),
