@@ -134,10 +134,10 @@ module _ (y : Day) (rest : List ℕ) where
   header_stands : Stands (book_of y ++ rest) 0 (book_header y)
   header_stands = stands_first (book_header y) (joined 5 (total_pair y)) head_stands
 
-  pair_stands : (s : ℕ) → s < 5 → Stands (book_of y ++ rest) (total_at s) (total_pair y s)
+  pair_stands : (s : ℕ) → s < 5 → Stands (book_of y ++ rest) (16 + 16 * s) (total_pair y s)
   pair_stands s l =
       let pairs = stands_after (book_header y) (joined 5 (total_pair y)) 16 16 head_stands (header_length y) refl in
-      let place : 16 + s * 16 ≡ total_at s = omega arith in
+      let place : 16 + s * 16 ≡ 16 + 16 * s = omega arith in
       rw place at (stands_joined 5 16 (total_pair y) pairs (λ m g. pair_length y m) s l)
 
   entry_stands : (k : ℕ) → k < y.lines → Stands (book_of y ++ rest) (entry_at k) (line_entry y k)

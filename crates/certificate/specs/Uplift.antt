@@ -19,7 +19,7 @@ use Rattle.day_totals.specs.Sizes.{size, total_most, mag_size}
 use Rattle.day_totals.specs.Sums.{sum_z_same}
 use Rattle.step_inputs.specs.Paid.{DaySized, day_bounded, settled_sized}
 use Rattle.book_layout.specs.Framing.{book_total, book_total_lem, after_settling}
-use Rattle.uplift_laws.specs.Fair.{uplift_fair, uplift_payments}
+use Rattle.uplift_laws.proofs.Days.{uplift_fair, uplift_payments}
 use Rattle.certificate.specs.Certificate.{adjusted_in, payments_in}
 use Rattle.certificate.specs.Answers.{settle_taken}
 use Rattle.certificate.specs.Proof.{adjusted_is, payments_sum}

@@ -104,7 +104,7 @@ module _ (t : List ℤ) (s : ℕ) (l : s < 5) (e a : ℤ) where
       let m = h.all in
       record { whole = r.0; all = omega (arith, apart (at_z t s), c.negative) }
 
-  owes_by : (b : Bool) → Case b t e s a → Exact t s e → mi a ≡ 0
+  pub owes_by : (b : Bool) → Case b t e s a → Exact t s e → mi a ≡ 0
   owes_by true c h = c.below
   owes_by false c h = omega (arith, c.below, c.negative, h.whole, h.all, need_step t s l, apart (at_z t s))
 
@@ -116,7 +116,7 @@ module _ (t : List ℤ) (h : mi (at_z t 0) ≡ 0) where
       rw (carried_step t s)
       (left_by t s (omega arith) (carried t s) (adjusted t s) (is_kept t s) (kept_whole t h s) (case_of t s) (left_before s (omega arith)))
 
-  exact_after : (r s : ℕ) → r < s → s ≤ 5 → 0 < pl (adjusted t r) → Exact t s (carried t s)
+  pub exact_after : (r s : ℕ) → r < s → s ≤ 5 → 0 < pl (adjusted t r) → Exact t s (carried t s)
   exact_after r zero l g p = absurd (omega arith)
   exact_after r (suc s) l g p =
       let i = exact_after r s in
@@ -134,7 +134,7 @@ module _ (t : List ℤ) (h : mi (at_z t 0) ≡ 0) where
       owes_by t s g (carried t s) (adjusted t s) (is_kept t s) (case_of t s) (exact_after r s l (omega arith) p)
 
   -- the totals so far are the adjusted ones so far and what is left
-  sums_so_far : (s : ℕ) → sum_z s (at_z t) ≡ sum_z s (adjusted t) +ℤ carried t s
+  pub sums_so_far : (s : ℕ) → sum_z s (at_z t) ≡ sum_z s (adjusted t) +ℤ carried t s
   sums_so_far zero = rw (sum_z_none (at_z t), sum_z_none (adjusted t), carried_first t)
   sums_so_far (suc s) =
       let r = sums_so_far s in
@@ -146,14 +146,16 @@ module _ (t : List ℤ) (h : mi (at_z t 0) ≡ 0) where
       (eq_z ((u +ℤ e) +ℤ x) ((u +ℤ a) +ℤ (e +ℤ (x -ℤ a)))
       (omega (arith, add_read (u +ℤ e) x, add_read u e, add_read (u +ℤ a) (e +ℤ (x -ℤ a)), add_read u a, add_read e (x -ℤ a), sub_read x a)))
 
-  -- "the five adjusted totals .. add up": to the five totals
-  pub adjusted_sum : sum_z 5 (adjusted t) ≡ sum_z 5 (at_z t)
+  -- after the last schedule nothing is left
+  pub none_left : sum_z 5 (adjusted t) +ℤ carried t 5 ≡ sum_z 5 (adjusted t)
   unfolding need
-  adjusted_sum =
+  none_left =
       let e = left_before 5 (omega arith) in
       let none : mi (carried t 5) ≡ 0 = e.whole in
       let most : pl (carried t 5) ≤ 0 = e.most in
       let u = sum_z 5 (adjusted t) in
-      sym
-      (sums_so_far 5
-      ∙ eq_z (u +ℤ carried t 5) u (omega (arith, add_read u (carried t 5))))
+      eq_z (u +ℤ carried t 5) u (omega (arith, add_read u (carried t 5)))
+
+  -- "the five adjusted totals .. add up": to the five totals
+  pub adjusted_sum : sum_z 5 (adjusted t) ≡ sum_z 5 (at_z t)
+  adjusted_sum = sym (sums_so_far 5 ∙ none_left)

@@ -29,7 +29,7 @@ unfoldable pub taken_value : List ℕ → (ℕ → ℕ) → ℕ → ℕ
 taken_value c f s = sum_to s (taken_at c f s)
 
 -- of one earlier rise: what schedule n leaves and what it takes
-left_taken : (c : List ℕ) (f : ℕ → ℕ) (n r : ℕ) → open_at c f (suc n) r + taken_at c f n r ≡ open_at c f n r
+left_taken : (c : List ℕ) (f : ℕ → ℕ) (n r : ℕ) → open_at c f (suc n) r + matched c n r * f r ≡ open_at c f n r
 unfolding open_at open_before matched_with
 left_taken c f n r =
     let b = rises_bound c (suc n) r in
@@ -56,7 +56,7 @@ open_next c f n =
     omega (arith, sum_suc n (open_at c f (suc n)), own_whole c f n, a, s)
 
 -- where nothing falls, nothing is taken
-none_taken : (c : List ℕ) (f : ℕ → ℕ) (s r : ℕ) → fall c s ≡ 0 → r < s → taken_at c f s r ≤ 0
+none_taken : (c : List ℕ) (f : ℕ → ℕ) (s r : ℕ) → fall c s ≡ 0 → r < s → matched c s r * f r ≤ 0
 none_taken c f s r e l =
     let z : matched c s r ≡ 0 = omega (arith, sum_term s (matched c s) r l, falls_matched c s) in
     rw z (omega (arith, zero-mul (f r)))
