@@ -1,2 +1,3 @@
--- Laws that only the proofs of the functions cite.
+-- Laws that only the proofs of the functions cite (Answers), and the certificate's proof (Certificate).
 pub mod Answers
+pub mod Certificate

@@ -1,20 +1,20 @@
 -- The cutter's certificate: what its answer for an accepted line says, place by place. The side stands only in `out_of_order`.
 use Prim.Native.Nat.{ℕ, zero, suc, ◌+◌, ◌*◌, ◌-◌, ◌≤◌, ◌<◌}
-use Rattle.std.proofs.Common.{arith, ◌∙◌, ap, subst, eq-eqb, eqb-true}
+use Rattle.std.proofs.Common.{arith, ◌∙◌, ap, eq-eqb, eqb-true}
 use Rattle.std.specs.Prelude.{◌≡◌, Bool, true, false, cond, List, length, eqb}
 use Rattle.std.proofs.Math.Path.{refl, sym}
 use Rattle.std.proofs.Math.ListN.{get_or}
 use Rattle.rules.specs.Fold.{before, sum_to}
-use Rattle.rules.specs.Layout.{side, bid_count}
+use Rattle.rules.specs.Layout.{side}
 use Rattle.rules.specs.Steps.{ends, step_count, upper_end, greatest_break, price, flag}
 use Rattle.rules.specs.Refusals.{cut_fault, out_of_order}
 use Rattle.rules.specs.Cutting.{prices, flags, flag_word, missing, price_row, cut_of, cut_refused, cut_answer}
 use Rattle.rules.specs.declared.Cut.{Cut}
 use Rattle.laws.specs.Folds.{or_else_both, sum_none, sum_suc, sum_same, at_five}
 use Rattle.laws.specs.Accepted.{AcceptedLine, accepted_line}
-use Rattle.cutter.specs.Lists.{in_at, place_of_lem, rises_at, rises_mono}
-use Rattle.cutter.specs.Ends.{EndOf, end_of, of_end, ends_rise, count_most, count_some, last_is}
-use Rattle.cutter.specs.Prices.{PriceRule, price_rule, first_flag, price_order, flag_stays, prices_length, prices_at, flags_length, flags_at, flags_most}
+use Rattle.cutter.specs.Lists.{rises_at, rises_mono}
+use Rattle.cutter.specs.Ends.{EndOf, ends_rise, count_most}
+use Rattle.cutter.specs.Prices.{PriceRule, prices_length, prices_at, flags_length, flags_at, flags_most}
 use Rattle.cutter.specs.Arrays.{bit_at, padded_at, padded_length, rows_at, bits_at, sum_places}
 
 -- the answer's upper end of step k, the one before (0 before the first), and the width
@@ -59,6 +59,8 @@ pub record CutterCertificate (w : List ℕ) (r : Cut) : Type 0 where
   -- along the steps of one schedule prices never fall (injection) and never rise (withdrawal)
   pub order : (s j k : ℕ) → s < 5 → j ≤ k → k < r.count → out_of_order (side w) (price_at r s j) (price_at r s k) ≡ false
 
+-- (that the answer is so is in proofs/Certificate.antt)
+
 -- an answer for a line with no fault is the whole one
 number_by : (w : List ℕ) (n : ℕ) (t : Bool) → eqb n 0 ≡ t → (cond t (cut_of w) (cut_refused n)).number ≡ 0 → n ≡ 0
 unfolding cut_of cut_refused
@@ -75,16 +77,16 @@ answer_whole w e = rw (eq-eqb (cut_fault w) 0 e)
 
 -- the answer's places
 module _ (w : List ℕ) (h : AcceptedLine w) where
-  end_at_lem : (k : ℕ) → end_at (cut_of w) k ≡ upper_end w k
+  pub end_at_lem : (k : ℕ) → end_at (cut_of w) k ≡ upper_end w k
   unfolding end_at cut_of upper_end
   end_at_lem k = padded_at 56 (ends w) k
 
-  before_at : (k : ℕ) → before (end_at (cut_of w)) k ≡ before (upper_end w) k
+  pub before_at : (k : ℕ) → before (end_at (cut_of w)) k ≡ before (upper_end w) k
   unfolding before
   before_at zero = refl
   before_at (suc k) = end_at_lem k
 
-  width_at_lem : (k : ℕ) → width_at (cut_of w) k ≡ upper_end w k - before (upper_end w) k
+  pub width_at_lem : (k : ℕ) → width_at (cut_of w) k ≡ upper_end w k - before (upper_end w) k
   unfolding width_at
   width_at_lem k = rw (end_at_lem k, before_at k)
 
@@ -94,7 +96,7 @@ module _ (w : List ℕ) (h : AcceptedLine w) where
       let c = count_most w h in
       padded_length 56 (prices w s) (rw (prices_length w s) c)
 
-  price_at_lem : (s k : ℕ) → s < 5 → k < step_count w → price_at (cut_of w) s k ≡ price w s (upper_end w k)
+  pub price_at_lem : (s k : ℕ) → s < 5 → k < step_count w → price_at (cut_of w) s k ≡ price w s (upper_end w k)
   unfolding price_at cut_of price_row
   price_at_lem s k a b =
       let c = count_most w h in
@@ -104,27 +106,27 @@ module _ (w : List ℕ) (h : AcceptedLine w) where
   unfolding flag_at cut_of flag_word
   bit_at_lem s k a = rw (at_five (flag_word w) 0 s a) (bits_at (flags w s) (flags_most w s) k)
 
-  flag_at_lem : (s k : ℕ) → s < 5 → k < step_count w → flag_at (cut_of w) s k ≡ flag w s (upper_end w k)
+  pub flag_at_lem : (s k : ℕ) → s < 5 → k < step_count w → flag_at (cut_of w) s k ≡ flag w s (upper_end w k)
   flag_at_lem s k a b = bit_at_lem s k a ∙ flags_at w s k b
 
-  missing_at : (s : ℕ) → s < 5 → get_or (cut_of w).missing s 0 ≡ sum_to (step_count w) (flag_at (cut_of w) s)
+  pub missing_at : (s : ℕ) → s < 5 → get_or (cut_of w).missing s 0 ≡ sum_to (step_count w) (flag_at (cut_of w) s)
   unfolding cut_of missing
   missing_at s a =
       at_five (missing w) 0 s a
       ∙ sum_places (flags w s)
       ∙ rw (flags_length w s) (sum_same (step_count w) (λ k. get_or (flags w s) k 0) (flag_at (cut_of w) s) (λ k l. sym (bit_at_lem s k a)))
 
-  end_rises : (k : ℕ) → k < step_count w → before (upper_end w) k < upper_end w k
+  pub end_rises : (k : ℕ) → k < step_count w → before (upper_end w) k < upper_end w k
   unfolding step_count upper_end before
   end_rises zero b = rises_at (ends_rise w h) 0 b
   end_rises (suc k) b = rises_at (ends_rise w h) (suc k) b
 
-  end_mono : (j k : ℕ) → j ≤ k → k < step_count w → upper_end w j ≤ upper_end w k
+  pub end_mono : (j k : ℕ) → j ≤ k → k < step_count w → upper_end w j ≤ upper_end w k
   unfolding step_count upper_end
   end_mono j k a b = rises_mono (ends_rise w h) j k a b
 
 -- differences of a rising row add up to its last
-telescopes : (n : ℕ) (f : ℕ → ℕ) → ((k : ℕ) → k < n → before f k < f k) → sum_to n (λ k. f k - before f k) ≡ before f n
+pub telescopes : (n : ℕ) (f : ℕ → ℕ) → ((k : ℕ) → k < n → before f k < f k) → sum_to n (λ k. f k - before f k) ≡ before f n
 unfolding before
 telescopes zero f h = sum_none (λ k. f k - before f k)
 telescopes (suc n) f h =
@@ -132,61 +134,10 @@ telescopes (suc n) f h =
     let a = h n (omega arith) in
     sum_suc n (λ k. f k - before f k) ∙ omega arith
 
-before_last : (n : ℕ) (f : ℕ → ℕ) → 0 < n → before f n ≡ f (n - 1)
+pub before_last : (n : ℕ) (f : ℕ → ℕ) → 0 < n → before f n ≡ f (n - 1)
 unfolding before
 before_last zero f h = absurd (omega arith)
 before_last (suc n) f h = ap f (omega arith)
-
-certified_whole : (w : List ℕ) → AcceptedLine w → CutterCertificate w (cut_of w)
-unfolding cut_of
-certified_whole w h =
-    record {
-      rise = λ k l. rw (before_at w h k, end_at_lem w h k) (end_rises w h k l);
-      only =
-          λ u e.
-          let p = end_at_lem w h e.step in
-          subst (λ (x : ℕ). EndOf w x) (sym p ∙ e.same) (end_of w (upper_end w e.step) (unfold step_count upper_end in in_at (ends w) e.step e.below));
-      every =
-          λ u e.
-          let p = place_of_lem (of_end w u e) in
-          record { step = p.place; below = unfold step_count in p.below; same = unfold upper_end in end_at_lem w h p.place ∙ p.same };
-      some = count_some w h;
-      few = count_most w h;
-      last = end_at_lem w h (step_count w - 1) ∙ last_is w h;
-      wide = λ k l. let a = end_rises w h k l in rw (width_at_lem w h k) (omega arith);
-      whole =
-          sum_same (step_count w) (width_at (cut_of w)) (λ k. upper_end w k - before (upper_end w) k) (λ k l. width_at_lem w h k)
-          ∙ telescopes (step_count w) (upper_end w) (end_rises w h)
-          ∙ before_last (step_count w) (upper_end w) (count_some w h)
-          ∙ last_is w h;
-      priced = λ s k a b. rw (end_at_lem w h k, price_at_lem w h s k a b, flag_at_lem w h s k a b) (price_rule w h s (upper_end w k) a);
-      run =
-          λ s j k a l b e.
-          let m = end_mono w h j k l b in
-          rw (flag_at_lem w h s k a b) (flag_stays w s (upper_end w j) (upper_end w k) m (sym (flag_at_lem w h s j a (omega arith)) ∙ e));
-      counted = λ s a. missing_at w h s a;
-      order =
-          λ s j k a l b.
-          rw (price_at_lem w h s j a (omega arith), price_at_lem w h s k a b)
-          (price_order w h s (upper_end w j) (upper_end w k) a (end_mono w h j k l b));
-    }
-
--- THE CERTIFICATE: of any answer that meets the contract of `cut` and whose number is 0
-pub certified : (w : List ℕ) (r : Cut) → r ≡ cut_answer w → r.number ≡ 0 → CutterCertificate w r
-unfolding cut_fault
-certified w r e n =
-    let f = fault_none w (sym (ap (λ (c : Cut). c.number) e) ∙ n) in
-    let h = accepted_line w (or_else_both _ _ f).right in
-    subst (λ (c : Cut). CutterCertificate w c) (sym (e ∙ answer_whole w f)) (certified_whole w h)
-
--- so the answer says which bids were pulled: those whose first step is flagged (the converse is in `priced`, by `pulled_rule`)
-pub pulled_seen : (w : List ℕ) (r : Cut) → r ≡ cut_answer w → r.number ≡ 0 → (s : ℕ) → s < 5 → flag_at r s 0 ≡ 1 → bid_count w s ≡ 0
-unfolding cut_fault
-pulled_seen w r e n s l g =
-    let f = fault_none w (sym (ap (λ (c : Cut). c.number) e) ∙ n) in
-    let h = accepted_line w (or_else_both _ _ f).right in
-    let q = subst (λ (c : Cut). flag_at c s 0 ≡ 1) (e ∙ answer_whole w f) g in
-    first_flag w h s l (sym (flag_at_lem w h s 0 l (count_some w h)) ∙ q)
 
 -- an answer has at most 56 steps, a refused one too
 count_by : (w : List ℕ) (t : Bool) → eqb (cut_fault w) 0 ≡ t → (cond t (cut_of w) (cut_refused (cut_fault w))).count ≤ 56

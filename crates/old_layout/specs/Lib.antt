@@ -1,12 +1,10 @@
 -- F-5's law: the old file with the rows in force written in (File) has the number, book, views and text of the file itself (Law).
--- Between them: copied bytes (Bytes), where the parts of the old file stand (Places) and what the rules read of it (Written); folds of equal
--- terms (Same); lines that differ in their operating quantities alone (Fields, Lines); days that agree on their steps (Days).
+-- Beside them: copied bytes (Bytes); folds of equal terms (Same); lines that differ in their operating quantities alone (Fields, Lines); what
+-- days that agree on their steps are (Days). The law's proof, and its way there, is in proofs/.
 pub mod File
 pub mod Bytes
-pub mod Places
 pub mod Same
 pub mod Fields
 pub mod Lines
-pub mod Written
 pub mod Days
 pub mod Law

@@ -15,7 +15,7 @@ use Rattle.laws.specs.InForce.{own_table}
 use Rattle.numbers.specs.Fives.{five_same}
 use Rattle.old_layout.specs.File.{row_place, place_in_force, old_file}
 use Rattle.old_layout.specs.Bytes.{Copied, part_copied, word_same}
-use Rattle.old_layout.specs.Places.{file_length_lem, market_copied, front_copied, actuals_copied, row_copied, old_words_lem}
+use Rattle.old_layout.proofs.Places.{file_length_lem, market_copied, front_copied, actuals_copied, row_copied, old_words_lem}
 use Rattle.old_layout.specs.Fields.{Alike}
 
 -- word j of line k is a word of the file
