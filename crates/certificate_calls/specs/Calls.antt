@@ -23,8 +23,9 @@ use Rattle.cutter.specs.Ends.{count_most}
 use Rattle.cutter.specs.Certificate.{end_at}
 use Rattle.certificate.specs.Certificate.{Certified}
 use Rattle.book_layout.specs.Framing.{book_count}
-use Rattle.certificate.specs.Proof.{certified, book_counts}
-use Rattle.certificate.specs.Uplift.{CertifiedUplift, uplift_certified}
+use Rattle.certificate.proofs.Certified.{certified, book_counts}
+use Rattle.certificate.specs.Uplift.{CertifiedUplift}
+use Rattle.certificate.proofs.Uplift.{uplift_certified}
 
 -- the cutter's answer for the bytes of line k
 unfoldable pub line_cut : List ℕ → ℕ → Cut

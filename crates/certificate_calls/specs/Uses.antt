@@ -24,8 +24,9 @@ use Rattle.rules.specs.Worked.HandDays.{reschedule_accepted, pulled_0_accepted, 
 use Rattle.laws.specs.Folds.{sum_same}
 use Rattle.cutter.specs.Certificate.{width_at}
 use Rattle.certificate.specs.Certificate.{Certified}
-use Rattle.certificate.specs.Proof.{certified}
-use Rattle.certificate.specs.Uplift.{CertifiedUplift, uplift_certified}
+use Rattle.certificate.proofs.Certified.{certified}
+use Rattle.certificate.specs.Uplift.{CertifiedUplift}
+use Rattle.certificate.proofs.Uplift.{uplift_certified}
 
 -- K10's day has none of settling's faults, by computation
 pub k10_accepted : day_fault k10_day ≡ 0

@@ -5,7 +5,7 @@ use Rattle.std.specs.Prelude.{◌≡◌, refl, List, ◌++◌, true, false, leng
 use Rattle.std.proofs.Math.Path.{ap}
 use Rattle.std.specs.Int.Signed.{lt_z, le_z}
 use Rattle.rules.specs.Fold.{sum_to, sum_z, five, at}
-use Rattle.rules.specs.Layout.{excess_most, word, ad_hoc, record_count, line_count, line_at, operating_table}
+use Rattle.rules.specs.Layout.{excess_most, word, record_count, line_count, line_at, operating_table}
 use Rattle.rules.specs.Steps.{greatest_break, step_count}
 use Rattle.rules.specs.Quantities.{untaken, pricing_total, table_total, table_actual}
 use Rattle.rules.specs.InForce.{table_in_force, operating_total, effective_actual}
@@ -20,7 +20,6 @@ use Rattle.rules.specs.Book.{book_of, book_after}
 use Rattle.rules.specs.declared.View.{View}
 use Rattle.rules.specs.declared.Cut.{Cut}
 use Rattle.laws.specs.Accepted.{accepted_day, accepted_line_at, accepted_line_with}
-use Rattle.laws.specs.Layouts.{old_count}
 use Rattle.laws.specs.InForce.{own_table}
 use Rattle.laws.specs.Folds.{sum_same, at_five}
 use Rattle.laws.specs.Ints.{lt_z_yes, le_lt_z}
@@ -38,10 +37,11 @@ use Rattle.step_inputs.specs.Paid.{DaySized, payment_size, day_bounded, settled_
 use Rattle.day_totals.specs.Sums.{sum_z_same}
 use Rattle.day_totals.specs.Money.{line_payments, adjusted_payments, adjusted_order}
 use Rattle.certificate.specs.Within.{within_bid, day_within, without_excess}
-use Rattle.certificate.specs.Excess.{view_within, payment_within}
+use Rattle.certificate.proofs.Excess.{view_within, payment_within}
 use Rattle.certificate.specs.Refused.{refused_with_twelve, own_taken}
 use Rattle.certificate.specs.Answers.{view_whole, view_past, settle_taken, end_at_lem, width_at_lem, match_is}
-use Rattle.certificate.specs.Running.{paid_part, view_difference, view_least, view_exact}
+use Rattle.certificate.specs.Running.{paid_part}
+use Rattle.certificate.proofs.Running.{view_difference, view_least, view_exact}
 
 module _ (d : List ℕ) (h : day_fault d ≡ 0) where
   -- gas and matches, of views that are the whole ones, with the steps, the operating totals and the effective actual of each line
@@ -320,9 +320,3 @@ certified_own d b book view cut h l settled viewed cutted none =
       same_end = λ k j g i. cut_end d b view h viewed k g (cut k) (cutted k) (taken k g) j i;
       same_width = λ k j g i. cut_width d b view h viewed k g (cut k) (cutted k) (taken k g) j i;
     })
-
-pub certified_old : (d b book : List ℕ) (view : ℕ → ℕ → View) (cut : ℕ → Cut) → day_fault d ≡ 0
-    → book_length (line_count d) ≤ length b → book ≡ book_after d b → ((k j : ℕ) → view k j ≡ view_answer d k j)
-    → ((k : ℕ) → cut k ≡ cut_answer (line_at d k)) → ad_hoc d ≡ false → CertifiedOwn d book view cut
-certified_old d b book view cut h l settled viewed cutted old =
-    certified_own d b book view cut h l settled viewed cutted (sym (old_count d (ad_hoc d) refl old))
