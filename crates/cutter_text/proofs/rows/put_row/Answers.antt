@@ -1,0 +1,7 @@
+-- `cutter_text::rows::put_row` meets its contract: the texts that its calls put, one after another.
+use Rattle.text.specs.Put.{then}
+use Rattle.cutter_text.proofs.rows.put_row.Goals as goal
+
+pub returns : goal.returns
+returns c =
+    then c.put_bytes-p.ensures c.put_five.ensures
