@@ -4,6 +4,8 @@
 #![tactic(auto)]
 
 ghost use Rattle.std.specs.Prelude.{◌≡◌, false, ◌≤◌, ◌<◌, length, IfOk};
+ghost use Rattle.std.specs.Io.KnownBytes.{IsAtEnd};
+ghost use Rattle.day_input.specs.Stream.{Passes, Counted, LongTold};
 
 use std::io;
 use std::io::{Read, Write};
@@ -12,16 +14,19 @@ use text_long::put_long;
 
 // How many bytes the next read gives, which are not kept.
 fn next<R: Read>(input: &mut R) -> io::Result<usize>
-    ensures { IfOk result (λ n. n ≤ 4096) }
+    ensures most { IfOk result (λ n. n ≤ 4096) }
+    ensures passed { IfOk result (λ n. Passes (R.remaining input.old) (R.remaining input.new) n) }
+    ensures end { IfOk result (λ n. n < 4096 → IsAtEnd (R.remaining input.new)) }
 {
     let mut space = [0u8; 4096];
     read_full(input, &mut space)
 }
 
-// How many bytes are left on the stream, counted up to 2^44: no header says as many. The loop maintains that they are at most 4,096 for
-// each turn.
+// How many bytes are left on the stream, counted up to 2^44: no header says as many. The loop maintains that they are 4,096 for each
+// turn.
 fn rest<R: Read>(input: &mut R) -> io::Result<usize>
-    ensures { IfOk result (λ n. n ≤ 17592186044416) }
+    ensures upper_bound { IfOk result (λ n. n ≤ 17592186044416) }
+    ensures counted { IfOk result (λ n. Counted (R.remaining input.old) n) }
 {
     let mut total: usize = 0;
     let mut turns: u64 = 0;
@@ -40,6 +45,7 @@ fn rest<R: Read>(input: &mut R) -> io::Result<usize>
 fn left<R: Read>(input: &mut R, n: usize) -> io::Result<usize>
     ensures upper_bound { IfOk result (λ m. m ≤ 17592186044416) }
     ensures value { IfOk result (λ m. n < 65536 → m ≡ 0) }
+    ensures counted { IfOk result (λ m. 65536 ≤ n → Counted (R.remaining input.old) m) }
 {
     if n < 65536 {
         return Ok(0);
@@ -55,7 +61,9 @@ pub fn refused_long<R: Read, W: Write>(
     n: usize,
 ) -> io::Result<bool>
     requires { (65536 ≤ length buffer.now) × (n ≤ 65536) }
-    ensures { IfOk result (λ more. n < 65536 → more ≡ false) }
+    ensures short { IfOk result (λ more. n < 65536 → more ≡ false) }
+    ensures kept { IfOk result (λ more. more ≡ false → output.new ≡ output.old) }
+    ensures told { IfOk result (λ more. LongTold more buffer.now n (R.remaining input.old) (W.contents output.old) (W.contents output.new)) }
 {
     let more = left(input, n)?;
     if more == 0 {

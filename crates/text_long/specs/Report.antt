@@ -6,7 +6,7 @@ use Rattle.rules.specs.Report.{refused_line, report_text}
 use Rattle.day_header.specs.Long.{long_refused}
 use Rattle.text.specs.Put.{Written}
 
-report_long : (d : List ℕ) → 44360 < length d → refused_line (day_fault d) ≡ report_text d
+pub report_long : (d : List ℕ) → 44360 < length d → refused_line (day_fault d) ≡ report_text d
 unfolding report_text
 report_long d l = rw (ne_eqb (day_fault d) 0 (long_refused d l))
 

@@ -1,0 +1,2 @@
+-- Reading on (Stream).
+pub mod Stream

@@ -1,0 +1,10 @@
+-- 4,096 bytes more.
+use Rattle.std.proofs.Common.{arith, rules}
+use Rattle.day_input.proofs.Stream.{passes_more}
+use Rattle.day_input.proofs.rest.Goals as goal
+
+pub loop-turns-preserved : goal.loop-turns-preserved
+loop-turns-preserved g c =
+    let before = c.loop-turns.invariant in
+    let read = c.in_ok-n.ensures in
+    (search rules, omega (arith, before.1, read.most), passes_more _ _ _ _ _ before.2 read.passed)

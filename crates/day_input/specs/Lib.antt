@@ -1,0 +1,2 @@
+-- What reading a long day on counts, and what is written for it (Stream).
+pub mod Stream
