@@ -1,2 +1,3 @@
--- Reading on (Stream).
+-- Reading on (Stream), what a program writes for a whole file (Whole).
 pub mod Stream
+pub mod Whole

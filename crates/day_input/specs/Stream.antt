@@ -21,3 +21,7 @@ Told false head xs old new = xs ≡ []
 abbrev pub LongTold : Bool → List ℕ → ℕ → Option (List ℕ) → Option (List ℕ) → Option (List ℕ) → Type 0
 LongTold more head n known old new =
     65536 ≤ n → length head ≡ 65536 → IfSome known (λ xs. length xs < 17592186044416 → Told more head xs old new)
+
+-- where the bytes of the whole file are known and fewer than 2^44, its text is written
+abbrev pub Answered : (List ℕ → List ℕ) → Option (List ℕ) → Option (List ℕ) → Option (List ℕ) → Type 0
+Answered text known old new = IfSome known (λ d. length d < 17592186044416 → Appends old new (text d))

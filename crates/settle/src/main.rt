@@ -3,21 +3,30 @@
 
 #![tactic(auto)]
 
+ghost use Rattle.std.specs.Prelude.{OnOk};
+ghost use Rattle.rules.specs.Report.{report_text};
+ghost use Rattle.day_input.specs.Stream.{Answered};
+
 use day_input::refused_long;
 use std::io;
-use std::io::Write;
+use std::io::{Read, Write};
 use streams::read_full;
 use text_day::day_report;
 
-fn main(rt: HostRuntime) -> io::Result<()> {
-    let mut input = rt.stdin();
-    let mut output = rt.stdout();
+// Reads a day to its end and writes its report.
+fn report_day<R: Read, W: Write>(input: &mut R, output: &mut W) -> io::Result<()>
+    ensures { OnOk result (Answered report_text (R.remaining input.old) (W.contents output.old) (W.contents output.new)) }
+{
     let mut buffer = [0u8; 65536];
-    let n = read_full(&mut input, &mut buffer)?;
-    if refused_long(&mut input, &mut output, &buffer, n)? {
+    let n = read_full(input, &mut buffer)?;
+    if refused_long(input, output, &buffer, n)? {
         return Ok(());
     }
     let mut out = [0u8; 12288];
     let end = day_report(&buffer[..n], &mut out);
     output.write_all(&out[..end])
+}
+
+fn main(rt: HostRuntime) -> io::Result<()> {
+    report_day(&mut rt.stdin(), &mut rt.stdout())
 }
