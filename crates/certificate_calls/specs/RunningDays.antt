@@ -13,18 +13,18 @@ use Rattle.rules.specs.Book.{bits64}
 use Rattle.rules.specs.Viewing.{view_of, view_answer}
 use Rattle.rules.specs.declared.View.{View}
 use Rattle.rules.specs.Refusals.{day_fault}
-use Rattle.rules.specs.Worked.Cases.{Case, every, bytes_of, bid, neg, number}
-use Rattle.rules.specs.Worked.Laws.{all}
-use Rattle.rules.specs.Worked.Opened.{opened}
-use Rattle.rules.specs.Worked.Figures.{k10_day}
-use Rattle.rules.specs.Worked.Base1.{base1_words, base1_day}
-use Rattle.rules.specs.Worked.Base2.{base2_words, base2_day}
-use Rattle.rules.specs.Worked.Pulled0.{pulled0_words, pulled0_day}
-use Rattle.rules.specs.Worked.Excess0.{excess0_words, excess0_day}
-use Rattle.rules.specs.Worked.Reschedule.{reschedule_words, reschedule_day}
-use Rattle.rules.specs.Worked.AdHoc0.{ad_hoc0_words, ad_hoc0_day}
-use Rattle.rules.specs.Worked.OpenRises.{open_rises_words, open_rises_day}
-use Rattle.rules.specs.Worked.HandDays.{open_rises_accepted}
+use Rattle.rules.proofs.Worked.Cases.{Case, every, bytes_of, bid, neg, number}
+use Rattle.rules.proofs.Worked.Laws.{all}
+use Rattle.rules.proofs.Worked.Opened.{opened}
+use Rattle.rules.proofs.Worked.Figures.{k10_day}
+use Rattle.rules.proofs.Worked.Base1.{base1_words, base1_day}
+use Rattle.rules.proofs.Worked.Base2.{base2_words, base2_day}
+use Rattle.rules.proofs.Worked.Pulled0.{pulled0_words, pulled0_day}
+use Rattle.rules.proofs.Worked.Excess0.{excess0_words, excess0_day}
+use Rattle.rules.proofs.Worked.Reschedule.{reschedule_words, reschedule_day}
+use Rattle.rules.proofs.Worked.AdHoc0.{ad_hoc0_words, ad_hoc0_day}
+use Rattle.rules.proofs.Worked.OpenRises.{open_rises_words, open_rises_day}
+use Rattle.rules.proofs.Worked.HandDays.{open_rises_accepted}
 use Rattle.certificate.specs.Certificate.{match_in, paid_up_to, rate_in, running_sum, open_in, open_at_rates, fell_at_zero, taken_at_zero}
 use Rattle.certificate.specs.Answers.{view_whole}
 

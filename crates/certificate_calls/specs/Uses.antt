@@ -11,16 +11,16 @@ use Rattle.rules.specs.declared.View.{View}
 use Rattle.rules.specs.declared.Cut.{Cut}
 use Rattle.rules.specs.Uplift.{uplift_answer}
 use Rattle.rules.specs.Book.{book_after}
-use Rattle.rules.specs.Worked.Opened.{opened}
-use Rattle.rules.specs.Worked.Figures.{k10_day}
-use Rattle.rules.specs.Worked.Base2.{base2_words, base2_day}
-use Rattle.rules.specs.Worked.Reschedule.{reschedule_words, reschedule_day}
-use Rattle.rules.specs.Worked.Lemma.{base_2_accepted}
-use Rattle.rules.specs.Worked.Pulled0.{pulled0_words, pulled0_day}
-use Rattle.rules.specs.Worked.Excess0.{excess0_words, excess0_day}
-use Rattle.rules.specs.Worked.AdHoc0.{ad_hoc0_words, ad_hoc0_day}
-use Rattle.rules.specs.Worked.OpenRises.{open_rises_words, open_rises_day}
-use Rattle.rules.specs.Worked.HandDays.{reschedule_accepted, pulled_0_accepted, excess_0_accepted, ad_hoc_0_accepted, open_rises_accepted}
+use Rattle.rules.proofs.Worked.Opened.{opened}
+use Rattle.rules.proofs.Worked.Figures.{k10_day}
+use Rattle.rules.proofs.Worked.Base2.{base2_words, base2_day}
+use Rattle.rules.proofs.Worked.Reschedule.{reschedule_words, reschedule_day}
+use Rattle.rules.proofs.Worked.Lemma.{base_2_accepted}
+use Rattle.rules.proofs.Worked.Pulled0.{pulled0_words, pulled0_day}
+use Rattle.rules.proofs.Worked.Excess0.{excess0_words, excess0_day}
+use Rattle.rules.proofs.Worked.AdHoc0.{ad_hoc0_words, ad_hoc0_day}
+use Rattle.rules.proofs.Worked.OpenRises.{open_rises_words, open_rises_day}
+use Rattle.rules.proofs.Worked.HandDays.{reschedule_accepted, pulled_0_accepted, excess_0_accepted, ad_hoc_0_accepted, open_rises_accepted}
 use Rattle.laws.specs.Folds.{sum_same}
 use Rattle.cutter.specs.Certificate.{width_at}
 use Rattle.certificate.specs.Certificate.{Certified}

@@ -21,7 +21,8 @@ pub extern "C" fn mewikofu_line_views(
         × (count.new ≡ length (line_views day.now line)) }
 {
     let answer = line_views(day, line, *views);
-    *views = answer.views;
+    let placed = answer.views;
+    *views = placed;
     *count = answer.count;
     answer.number
 }
