@@ -13,11 +13,15 @@ use Rattle.rules.specs.Viewing.{view_refused, view_answer}
 use Rattle.rules.specs.Report.{decimal, space, line_feed, refused_line}
 use Rattle.rules.specs.declared.View.{View}
 use Rattle.text.specs.Put.{joined_same}
+use Rattle.laws.specs.Folds.{joined_none, joined_more}
+use Rattle.std.proofs.Common.{◌+◌, subst, Option}
+use Rattle.std.specs.Io.KnownBytes.{Appends}
+use Rattle.std.proofs.KnownBytes.{Appends-nil, Appends-trans}
 use Rattle.view.specs.declared.line_views.StepViews.{StepViews}
 use Rattle.view.specs.LineViews.{line_answer, first_good, views_counted}
 use Rattle.view.specs.LineViews.{place_is as place-answered}
 use Rattle.text_lines.specs.Lines.{line_ids, side_steps}
-use Rattle.text_steps.specs.Text.{line_word, step_text, place_text, line_head, line_steps, steps_part, part_most, part_of}
+use Rattle.text_steps.specs.Text.{line_word, step_text, place_text, line_head, line_steps, steps_part, part_most, part_of, steps_text}
 use Rattle.text_view.specs.ViewText.{view_text, excess_row}
 
 -- what stands past a list's end does not show within it
@@ -81,3 +85,20 @@ module _ (d : List ℕ) (k lent : ℕ) where
       pub part_line : k < line_count d → line_steps d k ≡ part_of d k lent
       unfolding part_of steps_part
       part_line l = rw (le-ltb lent part_most h, ← e, eq-eqb r 0 z, lt-ltb k (line_count d) l)
+
+-- the text that is printed, by its cases
+module _ (d : List ℕ) where
+  pub text_refused : {r : ℕ} → r ≡ day_fault d → (r ≡ 0 → ⊥) → (lent : ℕ) → part_most ≤ lent → part_of d 0 lent ≡ steps_text d
+  unfolding steps_text
+  text_refused {r} e g lent h = sym (part_refused d 0 lent h e g refl) ∙ rw (← e, ne_eqb r 0 g)
+
+  pub text_accepted : day_fault d ≡ 0 → joined (line_count d) (line_steps d) ≡ steps_text d
+  unfolding steps_text
+  text_accepted z = rw (eq-eqb (day_fault d) 0 z)
+
+-- line k printed after the lines before it
+pub lines_more : (a b c : Option (List ℕ)) (f : ℕ → List ℕ) (k : ℕ) → Appends a b (joined k f) → Appends b c (f k) → Appends a c (joined (k + 1) f)
+lines_more a b c f k p q = subst (Appends a c) (sym (joined_more k f)) (Appends-trans a b c (joined k f) (f k) p q)
+
+pub lines_none : (a : Option (List ℕ)) (f : ℕ → List ℕ) → Appends a a (joined 0 f)
+lines_none a f = subst (Appends a a) (sym (joined_none f)) (Appends-nil a)

@@ -1,0 +1,25 @@
+-- The lines are printed one after another.
+use Rattle.std.proofs.Common.{◌≡◌, arith, rules, subst}
+use Rattle.std.specs.Io.KnownBytes.{Appends}
+use Rattle.rules.specs.Fold.{joined}
+use Rattle.rules.specs.Layout.{line_count}
+use Rattle.laws.specs.Accepted.{accepted_day}
+use Rattle.text_steps.specs.Text.{line_steps}
+use Rattle.text_steps.proofs.steps_text.Laws.{lines_more, lines_none}
+use Rattle.text_steps.proofs.steps_text.print_lines.Goals as goal
+
+pub line_count-n-requires : goal.line_count-n-requires
+line_count-n-requires g c = omega (arith, (accepted_day c.args.day.now c.requires.0).header.length_least)
+
+pub loop-k-init : goal.loop-k-init
+loop-k-init g c = (search rules, search rules, lines_none _ _)
+
+pub loop-k-preserved : goal.loop-k-preserved
+loop-k-preserved g c =
+    (search rules, search rules, lines_more _ _ _ _ c.loop-k.k c.loop-k.invariant.2 c.in_ok-print_line.ensures)
+
+pub returns : goal.returns
+returns g c =
+    let all : c.loop-k.k ≡ line_count c.args.day.now = omega (arith, c.line_count-n.ensures, c.loop-k.invariant.0) in
+    subst (λ n. Appends (g.W.Write.contents c.args.output.now) (g.W.Write.contents c.loop-k.output) (joined n (line_steps c.args.day.now)))
+    all c.loop-k.invariant.2
