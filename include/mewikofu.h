@@ -1,8 +1,8 @@
 /* Mewikofu for C (C99 or later), C++ (C++98 or later) and other languages.
 
    Link libmewikofu (settling, uplift, step view, line views, line part) and for the cutter libmewikofu_cut, or the shared object, which has both: tools/install
-   installs them. In the repository they are target/staticlib/libengine_c.a, which `rt staticlib engine_c` writes, and libcutter_c.a, which
-   `rt staticlib cutter_c` writes and which has nothing of the engine.
+   installs them. In the repository they are target/staticlib/libengine_c.a, which `tools/build engine_c` writes, and libcutter_c.a, which
+   `tools/build cutter_c` writes and which has nothing of the engine.
 
    Bytes. A function takes any bytes: no input is left out of its contract, which stands in crates/engine_c/src and crates/cutter_c/src.
 

@@ -1,4 +1,4 @@
-//! Links libengine_c.a and libcutter_c.a of this repository's target/staticlib, which `rt staticlib` writes, or those of the folder
+//! Links libengine_c.a and libcutter_c.a of this repository's target/staticlib, which `tools/build` writes, or those of the folder
 //! MEWIKOFU_ARCHIVE_FOLDER. `cargo check` needs neither, so a missing one is only told of here; rustc stops where it would link it.
 
 use std::path::{Path, PathBuf};
@@ -15,7 +15,7 @@ fn main() {
         println!("cargo:rerun-if-changed={}", archive.display());
         if !archive.exists() {
             println!(
-                "cargo:warning={} is missing: run `rt staticlib {name}` in the repository",
+                "cargo:warning={} is missing: run `tools/build {name}` in the repository",
                 archive.display()
             );
         }

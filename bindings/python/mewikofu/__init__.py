@@ -445,7 +445,7 @@ class _Cut(ctypes.Structure):
 
 # What makes the package's own shared object.
 _BUILD = (
-    "In the repository, after `rt staticlib engine_c && rt staticlib cutter_c`, run `bindings/python/build`, or "
+    "In the repository, after `tools/build engine_c cutter_c`, run `bindings/python/build`, or "
     "`pip install ./bindings/python`; or name another shared object in MEWIKOFU_LIBRARY."
 )
 

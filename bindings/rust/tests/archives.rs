@@ -12,7 +12,7 @@ fn interface() {
     let ended = Command::new(program).args(calls).output().unwrap();
     assert!(
         ended.status.success() && String::from_utf8_lossy(&ended.stdout).contains(" 1 passed;"),
-        "the archives aren't of this crate's version: run `rt staticlib engine_c` and `rt staticlib cutter_c` in the repository\n{ended:?}"
+        "the archives aren't of this crate's version: run `tools/build engine_c cutter_c` in the repository\n{ended:?}"
     );
 }
 
