@@ -5,18 +5,28 @@
 
 #![tactic(auto)]
 
+ghost use Rattle.std.specs.Prelude.{OnOk};
+ghost use Rattle.day_input.specs.Stream.{Answered};
+ghost use Rattle.text_steps.specs.Text.{steps_text};
+
 use day_input::refused_long;
 use std::io;
+use std::io::{Read, Write};
 use streams::read_full;
 use text_steps::steps_text::print;
 
-fn main(rt: HostRuntime) -> io::Result<()> {
-    let mut input = rt.stdin();
-    let mut output = rt.stdout();
+// Reads a day to its end and writes the text of its steps.
+fn print_steps<R: Read, W: Write>(input: &mut R, output: &mut W) -> io::Result<()>
+    ensures { OnOk result (Answered steps_text (R.remaining input.old) (W.contents output.old) (W.contents output.new)) }
+{
     let mut buffer = [0u8; 65536];
-    let n = read_full(&mut input, &mut buffer)?;
-    if refused_long(&mut input, &mut output, &buffer, n)? {
+    let n = read_full(input, &mut buffer)?;
+    if refused_long(input, output, &buffer, n)? {
         return Ok(());
     }
-    print(&mut output, &buffer[..n])
+    print(output, &buffer[..n])
+}
+
+fn main(rt: HostRuntime) -> io::Result<()> {
+    print_steps(&mut rt.stdin(), &mut rt.stdout())
 }

@@ -3,21 +3,30 @@
 
 #![tactic(auto)]
 
+ghost use Rattle.std.specs.Prelude.{OnOk};
+ghost use Rattle.rules.specs.Report.{uplift_report};
+ghost use Rattle.day_input.specs.Stream.{Answered};
+
 use day_input::refused_long;
 use std::io;
-use std::io::Write;
+use std::io::{Read, Write};
 use streams::read_full;
 use text_uplift::day_line;
 
-fn main(rt: HostRuntime) -> io::Result<()> {
-    let mut input = rt.stdin();
-    let mut output = rt.stdout();
+// Reads a day to its end and writes the line of its uplift.
+fn print_uplift<R: Read, W: Write>(input: &mut R, output: &mut W) -> io::Result<()>
+    ensures { OnOk result (Answered uplift_report (R.remaining input.old) (W.contents output.old) (W.contents output.new)) }
+{
     let mut buffer = [0u8; 65536];
-    let n = read_full(&mut input, &mut buffer)?;
-    if refused_long(&mut input, &mut output, &buffer, n)? {
+    let n = read_full(input, &mut buffer)?;
+    if refused_long(input, output, &buffer, n)? {
         return Ok(());
     }
     let mut out = [0u8; 128];
     let end = day_line(&buffer[..n], &mut out);
     output.write_all(&out[..end])
+}
+
+fn main(rt: HostRuntime) -> io::Result<()> {
+    print_uplift(&mut rt.stdin(), &mut rt.stdout())
 }

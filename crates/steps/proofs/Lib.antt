@@ -1,0 +1,2 @@
+-- A long file's text (Long).
+pub mod Long

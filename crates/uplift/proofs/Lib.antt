@@ -1,0 +1,2 @@
+-- A long file's line (Long).
+pub mod Long

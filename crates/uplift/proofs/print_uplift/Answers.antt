@@ -1,0 +1,25 @@
+-- The file went on, and its line is its refusal; or it ended, and the line of what was read is written.
+use Rattle.std.proofs.Common.{rules, ap}
+use Rattle.rules.specs.Report.{uplift_report}
+use Rattle.day_input.proofs.Whole.{answered_long, answered_read, written_lent}
+use Rattle.uplift.proofs.Long.{uplift_long}
+use Rattle.uplift.proofs.print_uplift.Goals as goal
+
+pub returns-then-branch : goal.returns-then-branch
+returns-then-branch g c =
+    let read = c.in_ok-n.ensures in
+    let long = c.in_ok-refused_long.ensures in
+    answered_long uplift_report (g.R.Read.remaining c.args.input.now) (g.R.Read.remaining c.read_full.new.input) (g.W.Write.contents c.args.output.now)
+    (g.W.Write.contents c.refused_long.new.output) c.read_full.new.space c.in_ok-n.n c.in_ok-refused_long.field-0
+    (search rules) read.bytes c.if-branch.true long.short (search rules) uplift_long long.told
+
+pub returns : goal.returns
+returns g c =
+    let read = c.in_ok-n.ensures in
+    let long = c.in_ok-refused_long.ensures in
+    let kept = long.kept c.if-branch.false in
+    let text = written_lent 117 c.day_line-end.result c.day_line-end.ensures (search rules) (search rules) in
+    answered_read c.write_all.result uplift_report (g.R.Read.remaining c.args.input.now) (g.R.Read.remaining c.read_full.new.input)
+    (g.W.Write.contents c.refused_long.new.output) (g.W.Write.contents c.args.output.now)
+    (g.W.Write.contents c.write_all.new.self) c.read_full.new.space _ c.in_ok-n.n c.in_ok-refused_long.field-0
+    (search rules) read.bytes c.if-branch.false read.end long.told (ap g.W.Write.contents kept) c.write_all.ensures.bytes text
