@@ -46,10 +46,10 @@ module _ {n b' c' q r : ℕ} (a b c k : ℕ) (some : 0 < c) (times : 0 < k) (t :
   pub scaled : (q ≡ a * b / c) × (r / k ≡ a * b % c)
   scaled =
       let m : Quotient (a * b * k) (c * k) (a * b / c) (a * b % c * k) =
-          record {
-            whole = omega (arith, ap (λ (x : ℕ). x * k) (div-add-mod' (a * b) c));
-            below = mul-lt-mul_of_pos_right (mod-lt (a * b) some) times;
-          }
+      record {
+        whole = omega (arith, ap (λ (x : ℕ). x * k) (div-add-mod' (a * b) c));
+        below = mul-lt-mul_of_pos_right (mod-lt (a * b) some) times;
+      }
       in
       let e : n ≡ a * b * k = omega (arith, ap (λ (x : ℕ). a * x) b-is) in
       let u : Quotient (a * b * k) (c * k) q r = rw (← e, ← c-is) t in (

@@ -19,4 +19,4 @@ pub bounds-prices-s : goal.bounds-prices-s
 bounds-prices-s c = omega (arith, c.requires.0.schedule, c.requires.2)
 
 pub returns : goal.returns
-returns c = record { value = flag_of _ _ _ c.step_price-p.ensures c.index.ensures; prices_after = rw (price_of _ _ _ c.step_price-p.ensures); }
+returns c = record { value = flag_of _ _ _ c.step_price-p.ensures c.index.ensures; prices_after = rw (price_of _ _ _ c.step_price-p.ensures) }

@@ -51,4 +51,4 @@ returns c =
     c.put_price-5.ensures.value in
     let prices-put' = prices_put_lem _ _ _ _ c.put_price.ensures.prices_after c.put_price-2.ensures.prices_after
     c.put_price-3.ensures.prices_after c.put_price-4.ensures.prices_after
-    c.put_price-5.ensures.prices_after in record { value = missing-is'; prices_after = prices-put'; }
+    c.put_price-5.ensures.prices_after in record { value = missing-is'; prices_after = prices-put' }

@@ -26,4 +26,4 @@ returns c =
     let book-whole' = book_whole (settled_day c.args.day.now) _ _ _ _ _ _ _ c.requires.1
     c.count_word.ensures c.day_paid-x.ensures.t_value.0
     c.day_paid-x.ensures.t_value.1 c.put_lines.ensures
-    c.put_front.ensures in record { value = refl; book_after = book-whole'; }
+    c.put_front.ensures in record { value = refl; book_after = book-whole' }

@@ -23,13 +23,12 @@ entry_at-requires c =
     omega (arith, c.line_count-n.ensures, c.requires.0.header.count_most)
 
 pub put_line-requires : goal.put_line-requires
-put_line-requires c =
-    (
-      c.requires.0,
-      c.requires.1,
-      omega (arith, c.line_count-n.ensures),
-      omega (arith, c.line_count-n.ensures, c.entry_at.ensures, c.loop-k.invariant.1, c.requires.2),
-    )
+put_line-requires c = (
+  c.requires.0,
+  c.requires.1,
+  omega (arith, c.line_count-n.ensures),
+  omega (arith, c.line_count-n.ensures, c.entry_at.ensures, c.loop-k.invariant.1, c.requires.2),
+)
 
 pub loop-k-preserved : goal.loop-k-preserved
 loop-k-preserved c =

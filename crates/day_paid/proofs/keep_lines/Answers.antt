@@ -87,6 +87,6 @@ loop-k-preserved c =
 pub returns : goal.returns
 returns c =
     let whole =
-        all_kept c.args.day.now c.loop-k.k _ _ _ _ _ c.line_count-n.ensures
-        c.loop-k.invariant.0 c.loop-k-test.false c.loop-k.invariant.1 c.loop-k.invariant.3 c.loop-k.invariant.4 in
-    record { kept_all = whole.0; counts_after = whole.1; }
+    all_kept c.args.day.now c.loop-k.k _ _ _ _ _ c.line_count-n.ensures
+    c.loop-k.invariant.0 c.loop-k-test.false c.loop-k.invariant.1 c.loop-k.invariant.3 c.loop-k.invariant.4 in
+    record { kept_all = whole.0; counts_after = whole.1 }

@@ -9,4 +9,4 @@ pay_kept-requires c =
     (c.requires.0, c.requires.1, c.requires.2, c.keep_lines-kept.ensures.kept_all)
 
 pub returns : goal.returns
-returns c = record { value = c.pay_kept.ensures.value; paid_after = c.pay_kept.ensures.paid_after; counts_after = c.keep_lines-kept.ensures.counts_after; }
+returns c = record { value = c.pay_kept.ensures.value; paid_after = c.pay_kept.ensures.paid_after; counts_after = c.keep_lines-kept.ensures.counts_after }

@@ -45,7 +45,7 @@ loop-k-preserved c =
 pub returns : goal.returns
 returns c =
     let whole =
-        lines_paid (settled_day c.args.day.now) c.loop-k.k _ _ _ _ _ _
-        c.line_count-n.ensures c.loop-k.invariant.0 c.loop-k-test.false c.loop-k.invariant.1
-        c.loop-k.invariant.2 c.loop-k.invariant.3 in
-    record { value = whole.0; paid_after = whole.1.0; counts_after = whole.1.1; }
+    lines_paid (settled_day c.args.day.now) c.loop-k.k _ _ _ _ _ _
+    c.line_count-n.ensures c.loop-k.invariant.0 c.loop-k-test.false c.loop-k.invariant.1
+    c.loop-k.invariant.2 c.loop-k.invariant.3 in
+    record { value = whole.0; paid_after = whole.1.0; counts_after = whole.1.1 }

@@ -32,4 +32,4 @@ bounds-counts-k c =
 pub returns : goal.returns
 returns c =
     let y = settled_day c.args.day.now in
-    let k = c.args.k in record { value = line_money_lem y k _ c.line_initial-x.ensures.1; paid_after = line_payments_lem y k _ _ _ _ c.line_initial-x.ensures.1 c.signed_money.ensures c.put_payments.ensures; counts_after = ap (lib.ListN.set c.args.counts.now k) c.line_initial-x.ensures.0; }
+    let k = c.args.k in record { value = line_money_lem y k _ c.line_initial-x.ensures.1; paid_after = line_payments_lem y k _ _ _ _ c.line_initial-x.ensures.1 c.signed_money.ensures c.put_payments.ensures; counts_after = ap (lib.ListN.set c.args.counts.now k) c.line_initial-x.ensures.0 }

@@ -39,13 +39,12 @@ loop-j-preserved c =
     c.break_number-fault.ensures c.if-fault-ne0.false
 
 pub slots_number-slots-requires : goal.slots_number-slots-requires
-slots_number-slots-requires c =
-    (
-      lent_length _ _ _ _ (omega arith) c.requires.1,
-      c.loop-s-test.true,
-      count_few _ _ _ c.count_number-counted.ensures c.if-counted-ne0.false,
-      c.bid_count-count.ensures,
-    )
+slots_number-slots-requires c = (
+  lent_length _ _ _ _ (omega arith) c.requires.1,
+  c.loop-s-test.true,
+  count_few _ _ _ c.count_number-counted.ensures c.if-counted-ne0.false,
+  c.bid_count-count.ensures,
+)
 
 pub loop-s-preserved : goal.loop-s-preserved
 loop-s-preserved c =
@@ -61,11 +60,10 @@ table_in_force-requires c =
     (lent_length _ _ _ _ (omega arith) c.requires.1, c.requires.2)
 
 pub limits_number-limits-requires : goal.limits_number-limits-requires
-limits_number-limits-requires c =
-    (
-      lent_length _ _ _ _ (omega arith) c.requires.1,
-      all_passed _ _ _ c.loop-s.invariant.1 c.loop-s.invariant.0 c.loop-s-test.false,
-    )
+limits_number-limits-requires c = (
+  lent_length _ _ _ _ (omega arith) c.requires.1,
+  all_passed _ _ _ c.loop-s.invariant.1 c.loop-s.invariant.0 c.loop-s-test.false,
+)
 
 pub lines-preserved : goal.lines-preserved
 lines-preserved c =

@@ -13,12 +13,11 @@ pub loop-s-init : goal.loop-s-init
 loop-s-init c = (search rules, search rules, row_none _ _ 256 _)
 
 pub loop-s-preserved : goal.loop-s-preserved
-loop-s-preserved c =
-    (
-      search rules,
-      search rules,
-      row_more (schedule_row c.args.v) 256 c.loop-s.s c.loop-s.invariant.2 c.put_row-p.ensures,
-    )
+loop-s-preserved c = (
+  search rules,
+  search rules,
+  row_more (schedule_row c.args.v) 256 c.loop-s.s c.loop-s.invariant.2 c.put_row-p.ensures,
+)
 
 pub returns : goal.returns
 returns c = let e : c.loop-s.s ≡ 5 = omega arith in rw e at c.loop-s.invariant.2

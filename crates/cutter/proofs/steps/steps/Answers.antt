@@ -29,24 +29,22 @@ pub bounds-ends-n : goal.bounds-ends-n
 bounds-ends-n c = room c.loop-far.invariant.swept c.loop-far-test.true
 
 pub put_step-missing-requires : goal.put_step-missing-requires
-put_step-missing-requires c =
-    (
-      c.loop-far.invariant.swept.here,
-      c.price_slots-slots.ensures,
-      room c.loop-far.invariant.swept c.loop-far-test.true,
-      missing_most _ _ c.loop-far.invariant.missing,
-    )
+put_step-missing-requires c = (
+  c.loop-far.invariant.swept.here,
+  c.price_slots-slots.ensures,
+  room c.loop-far.invariant.swept c.loop-far-test.true,
+  missing_most _ _ c.loop-far.invariant.missing,
+)
 
 pub passed-places-requires : goal.passed-places-requires
 passed-places-requires c =
     (c.loop-far.invariant.swept.here, omega (arith, limit c.loop-far.invariant.swept c.loop-far-test.true))
 
 pub next_gap-far-requires-in-loop-far : goal.next_gap-far-requires-in-loop-far
-next_gap-far-requires-in-loop-far c =
-    (
-      record { line = c.requires; above = omega arith; same = c.passed-places.ensures },
-      limit c.loop-far.invariant.swept c.loop-far-test.true,
-    )
+next_gap-far-requires-in-loop-far c = (
+  record { line = c.requires; above = omega arith; same = c.passed-places.ensures },
+  limit c.loop-far.invariant.swept c.loop-far-test.true,
+)
 
 pub overflow_add-n : goal.overflow_add-n
 overflow_add-n c =

@@ -6,4 +6,4 @@ use Rattle.engine_c.proofs.uplifting.mewikofu_uplift.Goals as goal
 
 pub returns : goal.returns
 returns c =
-    let e = c.uplift-answer.ensures in record { value = ap (λ (x : Uplift). x.number) e; shares_after = ap (λ (x : Uplift). x.shares) e; }
+    let e = c.uplift-answer.ensures in record { value = ap (λ (x : Uplift). x.number) e; shares_after = ap (λ (x : Uplift). x.shares) e }

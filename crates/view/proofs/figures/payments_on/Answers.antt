@@ -14,21 +14,19 @@ pub changes_on-v-requires : goal.changes_on-v-requires
 changes_on-v-requires c = (c.requires.2, c.rates-rate.ensures)
 
 pub revised_minus-revised-requires : goal.revised_minus-revised-requires
-revised_minus-revised-requires c =
-    (
-      c.requires.0,
-      rw (c.match_table-t.ensures, c.requires.2),
-      of_minus c.args.x _ c.changes_on-v.ensures,
-    )
+revised_minus-revised-requires c = (
+  c.requires.0,
+  rw (c.match_table-t.ensures, c.requires.2),
+  of_minus c.args.x _ c.changes_on-v.ensures,
+)
 
 pub modified_minus-modified-requires : goal.modified_minus-modified-requires
-modified_minus-modified-requires c =
-    (
-      c.requires.0,
-      rw (c.match_table-t.ensures, c.requires.2),
-      c.rates-rate.ensures,
-      of_minus c.args.x _ c.changes_on-v.ensures,
-    )
+modified_minus-modified-requires c = (
+  c.requires.0,
+  rw (c.match_table-t.ensures, c.requires.2),
+  c.rates-rate.ensures,
+  of_minus c.args.x _ c.changes_on-v.ensures,
+)
 
 pub final_minus-finals-requires : goal.final_minus-finals-requires
 final_minus-finals-requires c =
