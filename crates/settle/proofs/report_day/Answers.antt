@@ -1,5 +1,5 @@
 -- The file went on, and its refusal is its report; or it ended, and the report of what was read is written.
-use Rattle.std.proofs.Common.{◌≡◌, ◌≤◌, length, take, arith, rules, ap}
+use Rattle.std.proofs.Common.{rules, ap}
 use Rattle.rules.specs.Report.{report_text}
 use Rattle.day_input.proofs.Whole.{answered_long, answered_read, written_lent}
 use Rattle.text_long.specs.Report.{report_long}
