@@ -3,7 +3,7 @@
 
 #![tactic(auto)]
 
-ghost use Rattle.std.specs.Prelude.{◌≡◌, false, ◌≤◌, ◌<◌, length, IfOk};
+ghost use Rattle.std.specs.Prelude.{◌≡◌, false, ◌≤◌, ◌<◌, length, Ok, IfOk};
 ghost use Rattle.std.specs.Io.KnownBytes.{IsAtEnd};
 ghost use Rattle.day_input.specs.Stream.{Passes, Counted, LongTold};
 
@@ -45,6 +45,7 @@ fn rest<R: Read>(input: &mut R) -> io::Result<usize>
 fn left<R: Read>(input: &mut R, n: usize) -> io::Result<usize>
     ensures upper_bound { IfOk result (λ m. m ≤ 17592186044416) }
     ensures value { IfOk result (λ m. n < 65536 → m ≡ 0) }
+    ensures unread { n < 65536 → result ≡ Ok 0 }
     ensures counted { IfOk result (λ m. 65536 ≤ n → Counted (R.remaining input.old) m) }
 {
     if n < 65536 {
@@ -62,6 +63,7 @@ pub fn refused_long<R: Read, W: Write>(
 ) -> io::Result<bool>
     requires { (65536 ≤ length buffer.now) × (n ≤ 65536) }
     ensures short { IfOk result (λ more. n < 65536 → more ≡ false) }
+    ensures unread { n < 65536 → result ≡ Ok false }
     ensures kept { IfOk result (λ more. more ≡ false → output.new ≡ output.old) }
     ensures told { IfOk result (λ more. LongTold more buffer.now n (R.remaining input.old) (W.contents output.old) (W.contents output.new)) }
 {
