@@ -3,6 +3,7 @@
 #![tactic(auto)]
 
 mod figures;
+pub mod lent_views;
 pub mod line_views;
 
 ghost use Rattle.std.specs.Prelude.{◌≡◌, ◌<◌, ◌∷◌, get_or};

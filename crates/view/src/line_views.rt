@@ -1,8 +1,9 @@
 // The views of all steps of a line by one call: the day is checked, the line cut and the pool of its side worked out once.
-ghost use Rattle.std.specs.Prelude.{◌≡◌, ◌<◌};
+ghost use Rattle.std.specs.Prelude.{◌≡◌, ◌<◌, length};
+ghost use Rattle.std.proofs.lemmas.List.Edits.{sets};
 ghost use Rattle.rules.specs.Layout.{line_count};
 ghost use Rattle.rules.specs.Refusals.{day_fault};
-ghost use Rattle.view.specs.LineViews.{line_answer};
+ghost use Rattle.view.specs.LineViews.{line_views, line_answer};
 
 use crate::figures::step_view;
 use day::day_number;
@@ -20,13 +21,13 @@ pub struct StepViews {
     pub views: [View; 56],
 }
 
-// The views of line k of an accepted day. The loop maintains that those of the first j steps are put, and `lower` is the last of their ends.
-// `views` is made first: made just before the loop it costs one more copy.
-pub fn accepted_views(day: &[u8], k: usize, places: [View; 56]) -> StepViews
+// Puts the views of line k of an accepted day into the first of the lent places, and answers how many. The loop maintains that those of the
+// first j steps are put, and `lower` is the last of their ends.
+pub fn put_views(day: &[u8], k: usize, views: &mut [View; 56]) -> usize
     requires { (day_fault day.now ≡ 0) × (k < line_count day.now) }
-    ensures { result ≡ line_answer day.now k places }
+    ensures value { result ≡ length (line_views day.now k) }
+    ensures views_after { views.new ≡ sets views.old 0 (line_views day.now k) }
 {
-    let mut views = places;
     let line = line_of(day, k);
     let m = market_of(day);
     let t = totals_of(line, day_table(day, k, line));
@@ -43,9 +44,19 @@ pub fn accepted_views(day: &[u8], k: usize, places: [View; 56]) -> StepViews
         lower = ends[j];
         j += 1;
     }
+    n
+}
+
+// The views of line k of an accepted day, in the first of the places given.
+pub fn accepted_views(day: &[u8], k: usize, places: [View; 56]) -> StepViews
+    requires { (day_fault day.now ≡ 0) × (k < line_count day.now) }
+    ensures { result ≡ line_answer day.now k places }
+{
+    let mut views = places;
+    let count = put_views(day, k, &mut views);
     StepViews {
         number: 0,
-        count: n,
+        count,
         views,
     }
 }

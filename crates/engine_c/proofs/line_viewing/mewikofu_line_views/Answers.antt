@@ -1,14 +1,5 @@
--- `mewikofu_line_views` meets its contract: the parts of the answer go to the lent places.
-use Rattle.std.proofs.Common.{ap}
-use Rattle.view.specs.declared.line_views.StepViews.{StepViews}
-use Rattle.view.specs.LineViews.{line_answer}
+-- `mewikofu_line_views` meets its contract: the lent places are handed on, and the answer's parts go out.
 use Rattle.engine_c.proofs.line_viewing.mewikofu_line_views.Goals as goal
 
 pub returns : goal.returns
-unfolding line_answer
-returns c =
-    let e = c.line_views-answer.ensures in (
-      ap (λ (x : StepViews). x.number) e,
-      ap (λ (x : StepViews). x.views) e,
-      ap (λ (x : StepViews). x.count) e,
-    )
+returns c = (c.lent_views-answer.ensures.number, c.lent_views-answer.ensures.views_after, c.lent_views-answer.ensures.count)
