@@ -1,4 +1,4 @@
--- Document 02, F-14: the clauses on the running sum, computed on steps of accepted days (crates/rules/specs/Worked), and five wrong clauses, each
+-- Document 02, F-14: the clauses on the running sum, computed on steps of accepted days (crates/rules/proofs/Worked), and five wrong clauses, each
 -- false on the day with open rises.
 use Rattle.std.specs.Prelude.{ℕ, suc, ◌+◌, ◌*◌, ◌-◌, ◌<◌, ◌≡◌, refl, List, [], ◌∷◌, ◌++◌, Bool, true, false, length, take, drop, replicate, pos}
 use Rattle.std.proofs.Common.{arith, sym, ◌∙◌}
