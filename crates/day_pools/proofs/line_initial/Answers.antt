@@ -41,3 +41,6 @@ window_initial-requires c = (
   c.requires.3,
   c.entered-at.ensures,
 )
+
+pub returns : goal.returns
+returns c = c.window_initial.ensures

@@ -40,3 +40,6 @@ window_pool-requires c = (
   c.requires.2,
   c.entered-at.ensures,
 )
+
+pub returns : goal.returns
+returns c = c.window_pool.ensures
