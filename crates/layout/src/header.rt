@@ -13,6 +13,9 @@ const OLD_MARKET_AT: usize = 16;
 
 pub const LINE_BYTES: usize = 660;
 
+// The bytes of a line.
+pub type Line = [u8; LINE_BYTES];
+
 pub const RECORD_BYTES: usize = 32;
 
 pub const MOST_LINES: usize = 64;
@@ -133,10 +136,10 @@ pub fn file_length(day: &[u8]) -> usize
 }
 
 // The bytes of line k.
-pub fn line_of(day: &[u8], k: usize) -> &[u8]
+pub fn line_of(day: &[u8], k: usize) -> &Line
     requires { (64 ≤ length day.now) × (k < 64) × (layout.line_place day.now (k + 1) ≤ length day.now) }
     ensures { result.now ≡ layout.line_at day.now k }
 {
     let start = line_place(day, k);
-    &day[start..start + LINE_BYTES]
+    day[start..start + LINE_BYTES].as_array().unwrap()
 }
