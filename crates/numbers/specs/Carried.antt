@@ -35,6 +35,20 @@ carried_goes e f l s v c h k p =
           ];
     }
 
+-- place s - 1 keeps the given value
+pub carried_stays : (e : List ℕ) (f : ℕ → ℕ) (l : List ℕ) (s : ℕ)
+    → Carried e f l s → 0 < s → s ≤ 4 → at e (s - 1) ≡ f (s - 1) → Carried e f l (s - 1)
+carried_stays e f l s c h k p =
+    record {
+      long = c.long;
+      given = λ t m. c.given t (omega arith);
+      worked = λ t m n.
+          elim (dec_lt (s - 1) t) [
+            | yes g ↦ c.worked t (omega arith) n
+            | no g ↦ let q : t ≡ s - 1 = omega arith in rw q (c.given (s - 1) (omega arith) ∙ p)
+          ];
+    }
+
 -- carried back to the first place it is what f gives
 five_long : (l : List ℕ) → length l ≡ 5 → l ≡ five (at l)
 five_long [] h = absurd (omega arith)
