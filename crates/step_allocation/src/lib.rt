@@ -7,86 +7,71 @@ ghost use Rattle.rules.specs.Fold.{five, at};
 ghost use Rattle.rules.specs.Quantities.{allocated};
 ghost use Rattle.step_allocation.specs.Rows.{allocation, allocations, operating_allocations, pricing_allocations, actual_allocation};
 
-use numbers::{lesser, saturating_sub};
 use rules::Step;
 
-// A quantity allocated to a step: what the step takes, and what no step of the line takes.
+// What the step takes, and what no step of the line takes, of one quantity or of the totals of the five schedules.
 #[derive(Clone, Copy)]
-pub struct Allocation {
-    pub taken: u32,
-    pub excess: u32,
-}
-
-// The same for the five schedules.
-#[derive(Clone, Copy)]
-pub struct Allocations {
-    pub taken: [u32; 5],
-    pub excess: [u32; 5],
+pub struct Allocation<T> {
+    pub taken: T,
+    pub excess: T,
 }
 
 // What the step from l to u takes of q.
+#[tactic(auto, unfolding(rules::specs::Quantities::allocated))]
 pub fn taken(q: u32, l: u32, u: u32) -> u32
     ensures { result ≡ allocated q l u }
 {
-    saturating_sub(lesser(q, u), l)
+    q.min(u).saturating_sub(l)
 }
 
 // What it takes of the totals q of the five schedules.
 pub fn taken_row(q: [u32; 5], l: u32, u: u32) -> [u32; 5]
     ensures { result ≡ five (λ s. allocated (at q s) l u) }
 {
-    [
-        taken(q[0], l, u),
-        taken(q[1], l, u),
-        taken(q[2], l, u),
-        taken(q[3], l, u),
-        taken(q[4], l, u),
-    ]
+    q.map(|total| taken(total, l, u))
 }
 
 // q on the step from l to u of a line whose steps end at `most`
-pub fn allocate(q: u32, l: u32, u: u32, most: u32) -> Allocation
+#[tactic(auto, unfolding(crate::specs::Rows::allocation, rules::specs::Quantities::untaken))]
+pub fn allocate(q: u32, l: u32, u: u32, most: u32) -> Allocation<u32>
     ensures { result ≡ allocation q l u most }
 {
     Allocation {
         taken: taken(q, l, u),
-        excess: saturating_sub(q, most),
+        excess: q.saturating_sub(most),
     }
 }
 
 // The totals q of the five schedules on that step.
-pub fn allocate_all(q: [u32; 5], l: u32, u: u32, most: u32) -> Allocations
+#[tactic(auto, unfolding(crate::specs::Rows::allocations, rules::specs::Quantities::untaken))]
+pub fn allocate_all(q: [u32; 5], l: u32, u: u32, most: u32) -> Allocation<[u32; 5]>
     ensures { result ≡ allocations q l u most }
 {
-    let a = allocate(q[0], l, u, most);
-    let b = allocate(q[1], l, u, most);
-    let c = allocate(q[2], l, u, most);
-    let d = allocate(q[3], l, u, most);
-    let e = allocate(q[4], l, u, most);
-    Allocations {
-        taken: [a.taken, b.taken, c.taken, d.taken, e.taken],
-        excess: [a.excess, b.excess, c.excess, d.excess, e.excess],
+    Allocation {
+        taken: taken_row(q, l, u),
+        excess: q.map(|total| total.saturating_sub(most)),
     }
 }
 
 // O, and what no step takes
-pub fn operating_on(x: Step) -> Allocations
+#[tactic(auto, unfolding(crate::specs::Rows::allocations, crate::specs::Rows::operating_allocations, rules::specs::Payments::operating_on, rules::specs::Payments::excess_of))]
+pub fn operating_on(x: Step) -> Allocation<[u32; 5]>
     ensures { result ≡ operating_allocations x }
 {
-    let operating = x.operating;
-    allocate_all(operating, x.lower, x.upper, x.most)
+    allocate_all(x.operating, x.lower, x.upper, x.most)
 }
 
 // E, likewise
-pub fn pricing_on(x: Step) -> Allocations
+#[tactic(auto, unfolding(crate::specs::Rows::allocations, crate::specs::Rows::pricing_allocations, rules::specs::Payments::pricing_on, rules::specs::Payments::excess_of))]
+pub fn pricing_on(x: Step) -> Allocation<[u32; 5]>
     ensures { result ≡ pricing_allocations x }
 {
-    let pricing = x.pricing;
-    allocate_all(pricing, x.lower, x.upper, x.most)
+    allocate_all(x.pricing, x.lower, x.upper, x.most)
 }
 
 // A, likewise
-pub fn actual_on(x: Step) -> Allocation
+#[tactic(auto, unfolding(crate::specs::Rows::allocation, crate::specs::Rows::actual_allocation, rules::specs::Payments::actual_on, rules::specs::Payments::excess_of))]
+pub fn actual_on(x: Step) -> Allocation<u32>
     ensures { result ≡ actual_allocation x }
 {
     allocate(x.actual, x.lower, x.upper, x.most)

@@ -4,70 +4,57 @@ ghost use Rattle.rules.specs.Fold.{five};
 ghost use Rattle.rules.specs.Matching as rule;
 ghost use Rattle.step_changes.specs.Changes.{only_paid, product_in};
 
-use numbers::saturating_sub;
+use std::array::from_fn;
 
 pub fn product(a: u32, b: u32) -> u64
     ensures { result ≡ a * b }
 {
-    (a as u64) * (b as u64)
+    u64::from(a) * u64::from(b)
+}
+
+// C(s-1), which is 0 before schedule 1
+#[tactic(auto, unfolding(rules::specs::Matching::earlier, rules::specs::Fold::before))]
+fn earlier(c: [u32; 5]) -> [u32; 5]
+    ensures { result ≡ five (rule.earlier c) }
+{
+    [0, c[0], c[1], c[2], c[3]]
 }
 
 // U
+#[tactic(auto, unfolding(rules::specs::Matching::rise))]
 pub fn rises(c: [u32; 5]) -> [u32; 5]
     ensures { result ≡ five (rule.rise c) }
 {
-    [
-        c[0],
-        saturating_sub(c[1], c[0]),
-        saturating_sub(c[2], c[1]),
-        saturating_sub(c[3], c[2]),
-        saturating_sub(c[4], c[3]),
-    ]
+    let before = earlier(c);
+    from_fn(|s| c[s].saturating_sub(before[s]))
 }
 
 // D
+#[tactic(auto, unfolding(rules::specs::Matching::fall))]
 pub fn falls(c: [u32; 5]) -> [u32; 5]
     ensures { result ≡ five (rule.fall c) }
 {
-    [
-        0,
-        saturating_sub(c[0], c[1]),
-        saturating_sub(c[1], c[2]),
-        saturating_sub(c[2], c[3]),
-        saturating_sub(c[3], c[4]),
-    ]
+    let before = earlier(c);
+    from_fn(|s| before[s].saturating_sub(c[s]))
 }
 
 fn if_paid(paid: u32, q: u32) -> u32
     ensures { result ≡ cond (eqb paid 1) q 0 }
 {
-    if paid != 1 {
-        return 0;
-    }
-    q
+    if paid == 1 { q } else { 0 }
 }
 
 // Quantities where the step is paid, else 0.
+#[tactic(auto, unfolding(crate::specs::Changes::only_paid))]
 pub fn only_paid(paid: [u32; 5], q: [u32; 5]) -> [u32; 5]
     ensures { result ≡ five (only_paid paid q) }
 {
-    [
-        if_paid(paid[0], q[0]),
-        if_paid(paid[1], q[1]),
-        if_paid(paid[2], q[2]),
-        if_paid(paid[3], q[3]),
-        if_paid(paid[4], q[4]),
-    ]
+    from_fn(|s| if_paid(paid[s], q[s]))
 }
 
+#[tactic(auto, unfolding(crate::specs::Changes::product_in))]
 pub fn products(a: [u32; 5], b: [u32; 5]) -> [u64; 5]
     ensures { result ≡ five (product_in a b) }
 {
-    [
-        product(a[0], b[0]),
-        product(a[1], b[1]),
-        product(a[2], b[2]),
-        product(a[3], b[3]),
-        product(a[4], b[4]),
-    ]
+    from_fn(|s| product(a[s], b[s]))
 }

@@ -1,15 +1,15 @@
 // The quantities of a step, each for the five schedules at once: O, E, A, AGINO, MSIQ, constrained on (document 01, "Quantities") and what no
 // step takes (document 02, F-2).
-ghost use Rattle.std.specs.Prelude.{◌≡◌, ℕ, ◌-◌, ◌≤◌, ◌<◌};
+ghost use Rattle.std.specs.Prelude.{◌≡◌, ℕ, ◌≤◌, ◌<◌};
 ghost use Rattle.rules.specs.Fold.{five, at};
 ghost use Rattle.rules.specs.Quantities as rule;
 ghost use Rattle.rules.specs.Payments as paper;
 ghost use Rattle.step_quantities.specs.Quantities.{quantities_on};
 
-use numbers::saturating_sub;
 use rules::{Excess, Step};
+use std::array::from_fn;
 use step_agino::agino;
-use step_allocation::{actual_on, operating_on, pricing_on, taken, taken_row};
+use step_allocation::{Allocation, actual_on, operating_on, pricing_on, taken, taken_row};
 use step_msiq::msiq;
 
 // The quantities of one step. Arrays are by schedule.
@@ -27,68 +27,56 @@ pub struct StepQuantities {
     pub excess: Excess,
 }
 
-// C of a schedule
-fn constrained_in(o: [u32; 5], g: [u32; 5], q: [u32; 5], s: usize) -> u32
-    requires { (s < 5) × (at g s ≤ at o s) }
-    ensures { result ≡ at o s - at g s - at q s }
-{
-    saturating_sub(o[s] - g[s], q[s])
-}
-
 // C, from O, AGINO, which is at most O, and MSIQ
+#[tactic(auto, unfolding(rules::specs::Quantities::constrained))]
 pub fn constrained(o: [u32; 5], g: [u32; 5], q: [u32; 5]) -> [u32; 5]
     requires { (s : ℕ) → s < 5 → at g s ≤ at o s }
     ensures { result ≡ five (rule.constrained o g q) }
 {
-    [
-        constrained_in(o, g, q, 0),
-        constrained_in(o, g, q, 1),
-        constrained_in(o, g, q, 2),
-        constrained_in(o, g, q, 3),
-        constrained_in(o, g, q, 4),
-    ]
+    from_fn(|s| (o[s] - g[s]).saturating_sub(q[s]))
 }
 
 // All quantities of a step, with what no step of its line takes.
+#[tactic(auto, using(crate::specs::Bounds::agino_row), unfolding(crate::specs::Quantities::quantities_on, step_allocation::specs::Rows::operating_allocations, step_allocation::specs::Rows::pricing_allocations, step_allocation::specs::Rows::actual_allocation, rules::specs::Payments::agino_on, rules::specs::Payments::msiq_on, rules::specs::Payments::constrained_on, rules::specs::Payments::on_step, rules::specs::Payments::excess_of))]
 pub fn quantities_on(x: Step) -> StepQuantities
     ensures { result ≡ quantities_on x }
 {
-    let price = x.price;
-    let market = x.market;
-    let o = operating_on(x);
-    let e = pricing_on(x);
-    let a = actual_on(x);
-    let operating = o.taken;
-    let pricing = e.taken;
-    let operating_excess = o.excess;
-    let pricing_excess = e.excess;
-    let g = agino(operating, a.taken);
-    let q = msiq(x.side, price, market, pricing);
+    let Allocation {
+        taken: operating,
+        excess: operating_excess,
+    } = operating_on(x);
+    let Allocation {
+        taken: pricing,
+        excess: pricing_excess,
+    } = pricing_on(x);
+    let Allocation {
+        taken: actual,
+        excess: actual_excess,
+    } = actual_on(x);
+    let g = agino(operating, actual);
+    let q = msiq(x.side, x.price, x.market, pricing);
     StepQuantities {
         operating,
         pricing,
-        actual: a.taken,
+        actual,
         agino: g,
         msiq: q,
         constrained: constrained(operating, g, q),
         excess: Excess {
             operating: operating_excess,
             pricing: pricing_excess,
-            actual: a.excess,
+            actual: actual_excess,
         },
     }
 }
 
 // C of a step, where its other quantities and the excess are not asked for.
+#[tactic(auto, using(crate::specs::Bounds::agino_row), unfolding(rules::specs::Payments::operating_on, rules::specs::Payments::pricing_on, rules::specs::Payments::actual_on, rules::specs::Payments::agino_on, rules::specs::Payments::msiq_on, rules::specs::Payments::constrained_on, rules::specs::Payments::on_step))]
 pub fn constrained_on(x: Step) -> [u32; 5]
     ensures { result ≡ paper.on_step x }
 {
-    let operating = x.operating;
-    let pricing = x.pricing;
-    let price = x.price;
-    let market = x.market;
-    let o = taken_row(operating, x.lower, x.upper);
-    let e = taken_row(pricing, x.lower, x.upper);
+    let o = taken_row(x.operating, x.lower, x.upper);
+    let e = taken_row(x.pricing, x.lower, x.upper);
     let g = agino(o, taken(x.actual, x.lower, x.upper));
-    constrained(o, g, msiq(x.side, price, market, e))
+    constrained(o, g, msiq(x.side, x.price, x.market, e))
 }
