@@ -10,5 +10,9 @@ use std::io::Write;
 fn main(rt: HostRuntime) -> io::Result<()> {
     let mut output = rt.stdout();
     let mut space = [0u8; 131072];
-    pack::for_each(&mut rt.stdin(), &mut space, |day| writeln!(output, "{}", day_number(day)))
+    pack::for_each(
+        &mut rt.stdin(),
+        &mut space,
+        |day| writeln!(output, "{}", day_number(day)),
+    )
 }

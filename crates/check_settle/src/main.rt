@@ -17,5 +17,9 @@ fn print_report<W: Write>(output: &mut W, day: &[u8]) -> io::Result<()> {
 fn main(rt: HostRuntime) -> io::Result<()> {
     let mut output = rt.stdout();
     let mut space = [0u8; 65536];
-    pack::for_each(&mut rt.stdin(), &mut space, |day| print_report(&mut output, day))
+    pack::for_each(
+        &mut rt.stdin(),
+        &mut space,
+        |day| print_report(&mut output, day),
+    )
 }

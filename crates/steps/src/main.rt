@@ -8,7 +8,7 @@
 ghost use Rattle.std.specs.Prelude.{OnOk};
 ghost use Rattle.day_input.specs.Stream.{Answered};
 ghost use Rattle.text_steps.specs.Text.{steps_text};
-ghost use Rattle.steps.proofs.Long.{steps_long};
+ghost use Rattle.steps.specs.Long.{steps_long};
 
 use day_input::{DayText, answer};
 use std::io;

@@ -6,7 +6,7 @@
 ghost use Rattle.std.specs.Prelude.{OnOk};
 ghost use Rattle.rules.specs.Report.{uplift_report};
 ghost use Rattle.day_input.specs.Stream.{Answered};
-ghost use Rattle.uplift.proofs.Long.{uplift_long};
+ghost use Rattle.uplift.specs.Long.{uplift_long};
 
 use day_input::{DayText, answer};
 use std::io;
