@@ -32,7 +32,3 @@ pub pair_more : (t a : ℕ → ℤ) (s : ℕ) {l m n : List ℕ} {at p q : ℕ} 
     → Written (16 * (s + 1)) l at (joined (s + 1) (pair_bytes t a)) q n
 unfolding pair_bytes
 pair_more t a s h g w x = row_more (pair_bytes t a) 16 s w (written_as (ap₂ (λ (y z : ℤ). signed_bytes y ++ signed_bytes z) (to_z-of_z h) (to_z-of_z g)) x)
-
--- a row that is done
-pub row_all : (f : ℕ → List ℕ) (c s : ℕ) {l m : List ℕ} {at p : ℕ} → s ≤ 5 → 5 ≤ s → Written (c * s) l at (joined s f) p m → Written (c * 5) l at (joined 5 f) p m
-row_all f c s h g w = let e : s ≡ 5 = omega arith in rw e at w

@@ -45,10 +45,8 @@ fn put_five(book: &mut [u8], at: usize, v: [i64; 5]) -> usize
     ensures { Written 40 book.old at (joined 5 (money_bytes (at_z v))) result book.new }
 {
     let mut p = at;
-    let mut s = 0;
-    while s < 5 {
+    for s in 0..5 {
         p = put_money(book, p, v[s]);
-        s += 1;
     }
     p
 }
@@ -68,10 +66,8 @@ fn put_pairs(book: &mut [u8], at: usize, t: [i64; 5], a: [i64; 5]) -> usize
     ensures { Written 80 book.old at (joined 5 (pair_bytes (at_z t) (at_z a))) result book.new }
 {
     let mut p = at;
-    let mut s = 0;
-    while s < 5 {
+    for s in 0..5 {
         p = put_pair(book, p, t[s], a[s]);
-        s += 1;
     }
     p
 }

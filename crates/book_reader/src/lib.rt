@@ -12,19 +12,14 @@ ghost use Rattle.book_layout.specs.Framing.{book_count, book_payment};
 
 use book_layout::entry_at;
 use bytes_le::{signed_at, word_at};
+use std::array::from_fn;
 
 // Five signed numbers, `step` bytes apart, the first at byte `at`.
 fn five_at(b: &[u8], at: usize, step: usize) -> [i64; 5]
     requires { at + 4 * step + 8 ≤ length b.now }
     ensures { result ≡ five (moneys_at b.now at step) }
 {
-    [
-        signed_at(b, at),
-        signed_at(b, at + step),
-        signed_at(b, at + 2 * step),
-        signed_at(b, at + 3 * step),
-        signed_at(b, at + 4 * step),
-    ]
+    from_fn(|s| signed_at(b, at + s * step))
 }
 
 // Word j of entry k.

@@ -4,7 +4,7 @@
 #![tactic(auto)]
 
 use std::io;
-use std::io::{Read, Write};
+use std::io::Write;
 use text_day::day_report;
 
 // Prints the report of a day.
@@ -14,30 +14,12 @@ fn print_report<W: Write>(output: &mut W, day: &[u8]) -> io::Result<()> {
     output.write_all(&out[..end])
 }
 
-// Prints the report of the day that is the first `length` of the lent bytes. Answers whether they are so many.
-fn shown<W: Write>(output: &mut W, space: &[u8], length: usize) -> io::Result<bool> {
-    if space.len() < length {
-        return Ok(false);
-    }
-    print_report(output, &space[0..length])?;
-    Ok(true)
-}
-
-// The next day's. Answers whether there was one.
-fn next<R: Read, W: Write>(input: &mut R, output: &mut W) -> io::Result<bool> {
-    let mut space = [0u8; 65536];
-    let length = pack::read(input, &mut space)?;
-    shown(output, &space, length)
-}
-
-// A proved loop has to end, and nothing says that the input does: the turns are as many as no run uses up.
 fn main(rt: HostRuntime) -> io::Result<()> {
-    let mut input = rt.stdin();
     let mut output = rt.stdout();
-    for _ in 0..u64::MAX {
-        if !next(&mut input, &mut output)? {
-            break;
-        }
-    }
-    Ok(())
+    let mut space = [0u8; 65536];
+    pack::for_each(
+        &mut rt.stdin(),
+        &mut space,
+        |day| print_report(&mut output, day),
+    )
 }

@@ -25,3 +25,7 @@ LongTold more head n known old new =
 -- where the bytes of the whole file are known and fewer than 2^44, its text is written
 abbrev pub Answered : (List ℕ → List ℕ) → Option (List ℕ) → Option (List ℕ) → Option (List ℕ) → Type 0
 Answered text known old new = IfSome known (λ d. length d < 17592186044416 → Appends old new (text d))
+
+-- the text of a file that is longer than any accepted day is the line of its refusal
+abbrev pub RefusesLong : (List ℕ → List ℕ) → Type 0
+RefusesLong text = (d : List ℕ) → 44360 < length d → refused_line (day_fault d) ≡ text d

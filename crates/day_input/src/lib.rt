@@ -3,9 +3,9 @@
 
 #![tactic(auto)]
 
-ghost use Rattle.std.specs.Prelude.{◌≡◌, false, ◌≤◌, ◌<◌, length, Ok, IfOk};
-ghost use Rattle.std.specs.Io.KnownBytes.{IsAtEnd};
-ghost use Rattle.day_input.specs.Stream.{Passes, Counted, LongTold};
+ghost use Rattle.std.specs.Prelude.{◌≡◌, ℕ, false, ◌≤◌, ◌<◌, List, length, Ok, IfOk, OnOk};
+ghost use Rattle.std.specs.Io.KnownBytes.{Appends, IsAtEnd};
+ghost use Rattle.day_input.specs.Stream.{Passes, Counted, LongTold, RefusesLong, Answered};
 
 use std::io;
 use std::io::{Read, Write};
@@ -29,14 +29,12 @@ fn rest<R: Read>(input: &mut R) -> io::Result<usize>
     ensures counted { IfOk result (λ n. Counted (R.remaining input.old) n) }
 {
     let mut total: usize = 0;
-    let mut turns: u64 = 0;
-    while turns < 4294967296 {
+    for turns in 0..4294967296u64 {
         let n = next(input)?;
         total += n;
         if n < 4096 {
             return Ok(total);
         }
-        turns += 1;
     }
     Ok(total)
 }
@@ -75,4 +73,27 @@ pub fn refused_long<R: Read, W: Write>(
     let end = put_long(&mut out, buffer, n + more);
     output.write_all(&out[..end])?;
     Ok(true)
+}
+
+// What a program prints for a day.
+pub trait DayText {
+    // The bytes of it.
+    ghost text: { List ℕ → List ℕ };
+
+    ghost long: { RefusesLong text };
+
+    fn print<W: Write>(output: &mut W, day: &[u8]) -> io::Result<()>
+        ensures { OnOk result (Appends (W.contents output.old) (W.contents output.new) (text day.now)) };
+}
+
+// Reads a day to its end and writes its answer.
+pub fn answer<T: DayText, R: Read, W: Write>(input: &mut R, output: &mut W) -> io::Result<()>
+    ensures { OnOk result (Answered T.text (R.remaining input.old) (W.contents output.old) (W.contents output.new)) }
+{
+    let mut buffer = [0u8; 65536];
+    let n = read_full(input, &mut buffer)?;
+    if refused_long(input, output, &buffer, n)? {
+        return Ok(());
+    }
+    T::print(output, &buffer[..n])
 }

@@ -5,26 +5,33 @@
 
 ghost use Rattle.std.specs.Prelude.{OnOk};
 ghost use Rattle.rules.specs.Report.{report_text};
+ghost use Rattle.text_long.specs.Report.{report_long};
 ghost use Rattle.day_input.specs.Stream.{Answered};
 
-use day_input::refused_long;
+use day_input::{DayText, answer};
 use std::io;
 use std::io::{Read, Write};
-use streams::read_full;
 use text_day::day_report;
+
+struct Report;
+
+impl DayText for Report {
+    ghost text = { report_text };
+
+    ghost long = { report_long };
+
+    fn print<W: Write>(output: &mut W, day: &[u8]) -> io::Result<()> {
+        let mut out = [0u8; 12288];
+        let end = day_report(day, &mut out);
+        output.write_all(&out[..end])
+    }
+}
 
 // Reads a day to its end and writes its report.
 fn report_day<R: Read, W: Write>(input: &mut R, output: &mut W) -> io::Result<()>
     ensures { OnOk result (Answered report_text (R.remaining input.old) (W.contents output.old) (W.contents output.new)) }
 {
-    let mut buffer = [0u8; 65536];
-    let n = read_full(input, &mut buffer)?;
-    if refused_long(input, output, &buffer, n)? {
-        return Ok(());
-    }
-    let mut out = [0u8; 12288];
-    let end = day_report(&buffer[..n], &mut out);
-    output.write_all(&out[..end])
+    answer::<Report, R, W>(input, output)
 }
 
 fn main(rt: HostRuntime) -> io::Result<()> {

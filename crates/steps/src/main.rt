@@ -8,23 +8,30 @@
 ghost use Rattle.std.specs.Prelude.{OnOk};
 ghost use Rattle.day_input.specs.Stream.{Answered};
 ghost use Rattle.text_steps.specs.Text.{steps_text};
+ghost use Rattle.steps.specs.Long.{steps_long};
 
-use day_input::refused_long;
+use day_input::{DayText, answer};
 use std::io;
 use std::io::{Read, Write};
-use streams::read_full;
-use text_steps::steps_text::print;
+use text_steps::steps_text;
+
+struct Steps;
+
+impl DayText for Steps {
+    ghost text = { steps_text };
+
+    ghost long = { steps_long };
+
+    fn print<W: Write>(output: &mut W, day: &[u8]) -> io::Result<()> {
+        steps_text::print(output, day)
+    }
+}
 
 // Reads a day to its end and writes the text of its steps.
 fn print_steps<R: Read, W: Write>(input: &mut R, output: &mut W) -> io::Result<()>
     ensures { OnOk result (Answered steps_text (R.remaining input.old) (W.contents output.old) (W.contents output.new)) }
 {
-    let mut buffer = [0u8; 65536];
-    let n = read_full(input, &mut buffer)?;
-    if refused_long(input, output, &buffer, n)? {
-        return Ok(());
-    }
-    print(output, &buffer[..n])
+    answer::<Steps, R, W>(input, output)
 }
 
 fn main(rt: HostRuntime) -> io::Result<()> {

@@ -6,18 +6,15 @@ ghost use Rattle.text.specs.Put.{Written};
 ghost use Rattle.text.specs.Rows.{numbers, words};
 
 use crate::digits::{put_byte, put_signed, put_spaced};
-use numbers::wide;
 
-// Numbers, each after a space. The loop maintains that the first i are put.
+// Numbers, each after a space. The loop maintains that those before `x` are put.
 pub fn put_words(out: &mut [u8], at: usize, v: &[u32]) -> usize
     requires { at + 21 * length v.now ≤ length out.old }
     ensures { Written (21 * length v.now) out.old at (words v.now) result out.new }
 {
     let mut p = at;
-    let mut i = 0;
-    while i < v.len() {
-        p = put_spaced(out, p, wide(v[i]));
-        i += 1;
+    for x in v {
+        p = put_spaced(out, p, u64::from(*x));
     }
     p
 }
@@ -45,10 +42,8 @@ pub fn put_numbers(out: &mut [u8], at: usize, v: [i64; 5]) -> usize
     ensures { Written 110 out.old at (numbers (at_z v)) result out.new }
 {
     let mut p = at;
-    let mut s = 0;
-    while s < 5 {
+    for s in 0..5 {
         p = put_number_in(out, p, v, s);
-        s += 1;
     }
     p
 }

@@ -12,7 +12,7 @@ pub fn put_numbered(out: &mut [u8], at: usize, text: &[u8], n: u32) -> usize
     ensures { Written (length text.now + 20 + 1) out.old at (text.now ++ decimal n ++ line_feed) result out.new }
 {
     let a = put_bytes(out, at, text);
-    let b = put_decimal(out, a, n as u64);
+    let b = put_decimal(out, a, u64::from(n));
     put_byte(out, b, b'\n')
 }
 

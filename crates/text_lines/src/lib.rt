@@ -19,9 +19,10 @@ pub fn put_side(out: &mut [u8], at: usize, side: u32) -> usize
     ensures { Written 3 out.old at (side_text side) result out.new }
 {
     if side == 1 {
-        return put_bytes(out, at, b"WDR");
+        put_bytes(out, at, b"WDR")
+    } else {
+        put_bytes(out, at, b"INJ")
     }
-    put_bytes(out, at, b"INJ")
 }
 
 // Participant and point, with a space between them.
@@ -29,9 +30,9 @@ pub fn put_ids(out: &mut [u8], at: usize, participant: u32, point: u32) -> usize
     requires { at + 41 ≤ length out.old }
     ensures { Written 41 out.old at (line_ids participant point) result out.new }
 {
-    let a = put_decimal(out, at, participant as u64);
+    let a = put_decimal(out, at, u64::from(participant));
     let b = put_byte(out, a, b' ');
-    put_decimal(out, b, point as u64)
+    put_decimal(out, b, u64::from(point))
 }
 
 // The side between spaces, and the steps.
@@ -42,7 +43,7 @@ pub fn put_side_steps(out: &mut [u8], at: usize, side: u32, steps: u32) -> usize
     let a = put_byte(out, at, b' ');
     let b = put_side(out, a, side);
     let c = put_byte(out, b, b' ');
-    put_decimal(out, c, steps as u64)
+    put_decimal(out, c, u64::from(steps))
 }
 
 // A line of the report without its end.

@@ -22,7 +22,6 @@ fn put_entry(out: &mut [u8], at: usize, book: &[u8], k: usize) -> usize
     requires { (at + 177 ≤ length out.old) × (entry_at k + 56 ≤ length book.now) }
     ensures { Written 177 out.old at (entry_text book.now k) result out.new }
 {
-    let paid = payments(book, k);
     put_line(
         out,
         at,
@@ -30,7 +29,7 @@ fn put_entry(out: &mut [u8], at: usize, book: &[u8], k: usize) -> usize
         point(book, k),
         side(book, k),
         step_count(book, k),
-        paid,
+        payments(book, k),
     )
 }
 
@@ -40,10 +39,8 @@ fn put_entries(out: &mut [u8], at: usize, book: &[u8], n: usize) -> usize
     ensures { Written (177 * n) out.old at (joined n (entry_text book.now)) result out.new }
 {
     let mut p = at;
-    let mut k = 0;
-    while k < n {
+    for k in 0..n {
         p = put_entry(out, p, book, k);
-        k += 1;
     }
     p
 }

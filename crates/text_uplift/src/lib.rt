@@ -36,6 +36,5 @@ pub fn day_line(day: &[u8], out: &mut [u8]) -> usize
     if answer.number != 0 {
         return put_refused(out, 0, answer.number);
     }
-    let shares = answer.shares;
-    put_shares(out, shares)
+    put_shares(out, answer.shares)
 }

@@ -33,14 +33,10 @@ fn put_payments(out: &mut [u8], at: usize, v: View, s: usize) -> usize
     requires { (s < 5) × (at + 88 ≤ length out.old) }
     ensures { Written 88 out.old at (payments_text v s) result out.new }
 {
-    let initial = v.initial;
-    let revised = v.revised;
-    let modified = v.modified;
-    let finals = v.finals;
-    let a = put_number_in(out, at, initial, s);
-    let b = put_number_in(out, a, revised, s);
-    let c = put_number_in(out, b, modified, s);
-    put_number_in(out, c, finals, s)
+    let a = put_number_in(out, at, v.initial, s);
+    let b = put_number_in(out, a, v.revised, s);
+    let c = put_number_in(out, b, v.modified, s);
+    put_number_in(out, c, v.finals, s)
 }
 
 // The row of schedule s.
@@ -61,10 +57,8 @@ fn put_rows(out: &mut [u8], at: usize, v: View) -> usize
     ensures { Written 1280 out.old at (joined 5 (schedule_row v)) result out.new }
 {
     let mut p = at;
-    let mut s = 0;
-    while s < 5 {
+    for s in 0..5 {
         p = put_row(out, p, v, s);
-        s += 1;
     }
     p
 }
@@ -74,10 +68,9 @@ fn put_step_head(out: &mut [u8], at: usize, j: usize, v: View) -> usize
     requires { at + 89 ≤ length out.old }
     ensures { Written 89 out.old at (step_head j v) result out.new }
 {
-    let ends = [v.end, v.width, v.actual];
     let a = put_bytes(out, at, b"step ");
     let b = put_decimal(out, a, j as u64);
-    let c = put_words(out, b, &ends);
+    let c = put_words(out, b, &[v.end, v.width, v.actual]);
     put_byte(out, c, b'\n')
 }
 
@@ -96,10 +89,9 @@ pub fn put_view(out: &mut [u8], at: usize, j: usize, v: View) -> usize
     requires { at + 1587 ≤ length out.old }
     ensures { Written 1587 out.old at (view_text j v) result out.new }
 {
-    let m = v.matches;
     let a = put_step_head(out, at, j, v);
     let b = put_rows(out, a, v);
-    put_matches(out, b, m)
+    put_matches(out, b, v.matches)
 }
 
 // Five numbers, each after a space.
@@ -115,14 +107,11 @@ pub fn put_excess(out: &mut [u8], at: usize, x: Excess) -> usize
     requires { at + 263 ≤ length out.old }
     ensures { Written 263 out.old at (excess_row x) result out.new }
 {
-    let pricing = x.pricing;
-    let operating = x.operating;
-    let actual = [x.actual];
     let a = put_bytes(out, at, b"excess pricing");
-    let b = put_five(out, a, pricing);
+    let b = put_five(out, a, x.pricing);
     let c = put_bytes(out, b, b" operating");
-    let d = put_five(out, c, operating);
+    let d = put_five(out, c, x.operating);
     let e = put_bytes(out, d, b" actual");
-    let f = put_words(out, e, &actual);
+    let f = put_words(out, e, &[x.actual]);
     put_byte(out, f, b'\n')
 }

@@ -6,25 +6,32 @@
 ghost use Rattle.std.specs.Prelude.{OnOk};
 ghost use Rattle.rules.specs.Report.{uplift_report};
 ghost use Rattle.day_input.specs.Stream.{Answered};
+ghost use Rattle.uplift.specs.Long.{uplift_long};
 
-use day_input::refused_long;
+use day_input::{DayText, answer};
 use std::io;
 use std::io::{Read, Write};
-use streams::read_full;
 use text_uplift::day_line;
+
+struct Line;
+
+impl DayText for Line {
+    ghost text = { uplift_report };
+
+    ghost long = { uplift_long };
+
+    fn print<W: Write>(output: &mut W, day: &[u8]) -> io::Result<()> {
+        let mut out = [0u8; 128];
+        let end = day_line(day, &mut out);
+        output.write_all(&out[..end])
+    }
+}
 
 // Reads a day to its end and writes the line of its uplift.
 fn print_uplift<R: Read, W: Write>(input: &mut R, output: &mut W) -> io::Result<()>
     ensures { OnOk result (Answered uplift_report (R.remaining input.old) (W.contents output.old) (W.contents output.new)) }
 {
-    let mut buffer = [0u8; 65536];
-    let n = read_full(input, &mut buffer)?;
-    if refused_long(input, output, &buffer, n)? {
-        return Ok(());
-    }
-    let mut out = [0u8; 128];
-    let end = day_line(&buffer[..n], &mut out);
-    output.write_all(&out[..end])
+    answer::<Line, R, W>(input, output)
 }
 
 fn main(rt: HostRuntime) -> io::Result<()> {

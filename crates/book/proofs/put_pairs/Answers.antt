@@ -1,27 +1,19 @@
--- `book::put_pairs` meets its contract: after s turns the first s pairs are put.
-use Prim.Native.Nat.{◌*◌, ◌-◌, ◌≤◌}
-use mathlib.Core.Path.{◌≡◌}
-use lib.ListN.{length}
-use borrow.Author.Rules.{rules}
-use Rattle.rules.specs.Fold.{joined, before, at, at_z}
-use Rattle.text.specs.Put.{Written, row_none}
-use Rattle.book.specs.Entries.{pair_bytes}
-use Rattle.book.proofs.Laws.{pair_more, row_all}
-use Rattle.text.proofs.digits.Signs.{array_fits}
+-- After s turns the first s pairs are put.
+use Rattle.std.proofs.Common.{◌≡◌, SFits, w64, arith, rules}
+use Rattle.rules.specs.Fold.{at_z}
+use Rattle.text.specs.Put.{row_none}
+use Rattle.book.proofs.Laws.{pair_more}
 use Rattle.book.proofs.put_pairs.Goals as goal
 
 pub loop-s-init : goal.loop-s-init
-loop-s-init c = (search rules, search rules, search rules, search rules, row_none _ _ 16 _)
+loop-s-init c = (search rules, row_none _ _ 16 _)
 
 pub loop-s-preserved : goal.loop-s-preserved
 loop-s-preserved c =
-    let t3 = c.args.t in
-    let t4 = c.args.a in
-    let pair-more' = pair_more (at_z t3) (at_z t4) c.loop-s.s
-    (array_fits 5 t3 _ c.well_formed.1.1.0 c.loop-s.s)
-    (array_fits 5 t4 _ c.well_formed.1.1.1.0 c.loop-s.s) c.loop-s.invariant.4
-    c.put_pair-p.ensures in
-    (search rules, search rules, search rules, search rules, pair-more')
+    let t = at_z c.args.t in
+    let a = at_z c.args.a in
+    let fits : SFits w64 (t c.loop-s.s) × SFits w64 (a c.loop-s.s) = search rules in
+    (search rules, pair_more t a c.loop-s.s fits.0 fits.1 c.loop-s.invariant.1 c.put_pair-p.ensures)
 
 pub returns : goal.returns
-returns c = row_all _ 16 c.loop-s.s c.loop-s.invariant.0 (search rules) c.loop-s.invariant.4
+returns c = let e : c.loop-s.s ≡ 5 = omega arith in rw e at c.loop-s.invariant.1

@@ -1,31 +1,21 @@
--- `book_reader::five_at` meets its contract: each number is read back from its bits.
-use native.Mathlib.Omega.{arith}
-use borrow.Author.Rules.{rules}
-use Prim.Native.Nat.{◌+◌, ◌*◌, ◌^◌, ◌<◌}
-use mathlib.Core.Path.{◌≡◌, ◌∙◌, ap}
-use lib.IntN.{ℤ}
-use lib.Signed.{mag}
-use mir.Syntax.{w64}
-use mir.Val.{to_z, of_z}
-use mir.Facts.{to_z-of_z}
-use Rattle.book_layout.specs.Reading.{signed_at, moneys_at}
-use Rattle.numbers.specs.Fives.{five_is}
+-- Each number as it is read.
+use Rattle.std.proofs.Common.{ℕ, ◌≡◌, List, [], ◌∷◌, ℤ, pos, get_or, length, arith, rules}
+use Rattle.rules.specs.Fold.{five}
+use Rattle.book_layout.specs.Reading.{moneys_at}
 use Rattle.book_reader.proofs.five_at.Goals as goal
 
--- a signed result of a call, read back from its bits
-read_back : {z y : ℤ} → mag z < 2 ^ 63 → z ≡ y → to_z w64 (of_z w64 z) ≡ y
-read_back f e = to_z-of_z {w = w64} (record { sfits = f }) ∙ e
+-- a row of five by its places
+row_five : (f : ℕ → ℤ) (r : List ℤ) → length r ≡ 5 → get_or r 0 (pos 0) ≡ f 0 → get_or r 1 (pos 0) ≡ f 1 → get_or r 2 (pos 0) ≡ f 2
+    → get_or r 3 (pos 0) ≡ f 3 → get_or r 4 (pos 0) ≡ f 4 → r ≡ five f
+row_five f [] h a b c d e = absurd (omega arith)
+row_five f (u ∷ []) h a b c d e = absurd (omega arith)
+row_five f (u ∷ v ∷ []) h a b c d e = absurd (omega arith)
+row_five f (u ∷ v ∷ w ∷ []) h a b c d e = absurd (omega arith)
+row_five f (u ∷ v ∷ w ∷ x ∷ []) h a b c d e = absurd (omega arith)
+row_five f (u ∷ v ∷ w ∷ x ∷ y ∷ []) h a b c d e = cc
+row_five f (u ∷ v ∷ w ∷ x ∷ y ∷ z ∷ r) h a b c d e = absurd (omega arith)
 
 pub returns : goal.returns
 returns c =
-    let b = c.args.b.now in
-    let at = c.args.at in
-    let step = c.args.step in
-    let e₀ : at ≡ at + 0 * step = omega arith in
-    let e₁ : at + step ≡ at + 1 * step = omega arith in
-    five_is (moneys_at b at step)
-    (read_back c.signed_at.type_inv (c.signed_at.ensures ∙ ap (signed_at b) e₀))
-    (read_back c.signed_at-2.type_inv (c.signed_at-2.ensures ∙ ap (signed_at b) e₁))
-    (read_back c.signed_at-3.type_inv c.signed_at-3.ensures)
-    (read_back c.signed_at-4.type_inv c.signed_at-4.ensures)
-    (read_back c.signed_at-5.type_inv c.signed_at-5.ensures)
+    row_five (moneys_at c.args.b.now c.args.at c.args.step) c.from_fn.result (search rules) (search rules) (search rules) (search rules) (search rules)
+    (search rules)

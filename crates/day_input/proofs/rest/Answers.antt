@@ -7,4 +7,4 @@ pub loop-turns-preserved : goal.loop-turns-preserved
 loop-turns-preserved g c =
     let before = c.loop-turns.invariant in
     let read = c.in_ok-n.ensures in
-    (search rules, omega (arith, before.1, read.most), passes_more _ _ _ _ _ before.2 read.passed)
+    (omega (arith, before.0, read.most), passes_more _ _ _ _ _ before.1 read.passed)

@@ -7,4 +7,4 @@ use Rattle.text_lines.proofs.put_ids.Goals as goal
 pub returns : goal.returns
 unfolding line_ids
 returns c =
-    then (then c.put_decimal-a.ensures c.put_byte-b.ensures) c.put_decimal.ensures
+    then (then (rw c.from.ensures at c.put_decimal-a.ensures) c.put_byte-b.ensures) (rw c.from-2.ensures at c.put_decimal.ensures)

@@ -7,4 +7,4 @@ use Rattle.text_lines.proofs.put_side_steps.Goals as goal
 pub returns : goal.returns
 unfolding side_steps
 returns c =
-    then (then (then c.put_byte-a.ensures c.put_side-b.ensures) c.put_byte-c.ensures) c.put_decimal.ensures
+    then (then (then c.put_byte-a.ensures c.put_side-b.ensures) c.put_byte-c.ensures) (rw c.from.ensures at c.put_decimal.ensures)

@@ -8,5 +8,5 @@ pub returns : goal.returns
 returns c =
     let entry-is' = entry_is c.args.book.now c.args.k
     c.participant.ensures c.point.ensures c.side.ensures
-    c.step_count.ensures c.payments-paid.ensures in
+    c.step_count.ensures c.payments.ensures in
     written_as entry-is' c.put_line.ensures

@@ -1,13 +1,20 @@
--- `text::digits::put_bytes` meets its contract: after i turns the first i bytes of the text are put.
-use borrow.Author.Rules.{rules}
-use Rattle.text.specs.Put.{written_none, written_more, written_all}
+-- The bytes were copied into their place.
+use Rattle.std.proofs.Common.{ℕ, ◌+◌, ◌≤◌, ◌≡◌, List, ◌++◌, length, take, drop, refl, sym, ◌∙◌, arith, take_all}
+use Rattle.std.proofs.lemmas.List.Edits.{sets, sets-eq}
+use Rattle.std.proofs.lemmas.Slice.{put_mid-paste}
+use borrow.Rule.Slice.PartMut.{put_mid}
 use Rattle.text.proofs.digits.put_bytes.Goals as goal
 
-pub loop-i-init : goal.loop-i-init
-loop-i-init c = (search rules, search rules, written_none _ _)
-
-pub loop-i-preserved : goal.loop-i-preserved
-loop-i-preserved c = (search rules, search rules, written_more _ _ c.loop-i.invariant.2 c.loop-i-test.true)
+copied : {m : List ℕ} (l t : List ℕ) (at k : ℕ) → k ≡ length t → at + length t ≤ length l → m ≡ t → put_mid at k l m ≡ sets l at t
+copied {m} l t at k e h same =
+    let whole : put_mid at k l m ≡ take at l ++ take (length t) t ++ drop (at + length t) l =
+    put_mid-paste at k l m t (length t) same (sym e) refl in
+    whole ∙ (rw (sets-eq t l at h, take_all (length t) t (omega arith)) refl)
 
 pub returns : goal.returns
-returns c = written_all _ _ c.loop-i.invariant.2 c.loop-i-test.false
+returns c =
+    record {
+      most = omega arith;
+      end = refl;
+      bytes = copied c.args.out.now c.args.text.now c.args.at _ (omega arith) c.requires c.copy_from_slice.ensures.after;
+    }
