@@ -10,8 +10,8 @@ quantity v = record { mj = v }
 abbrev pub price : ℕ → Price
 price v = record { units = v }
 
--- the word v as a number of a kind, unless it is above the kind's limit. Some stands for the number 0, no refusal, and for the word as value;
--- None stands for the number of the refusal that the reader names, and has no value
+-- the word v as a number of a kind, unless it is above the kind's limit. Some stands for the number 0, which is no refusal, and has the
+-- word as its value; None stands for the number of the refusal that the reader names, and has no value
 abbrev pub read_within : {A : Type 0} → ℕ → (ℕ → A) → ℕ → Option A
 read_within most of v = cond (leb v most) (Some (of v)) None
 
