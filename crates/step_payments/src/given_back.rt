@@ -1,5 +1,5 @@
 // What falls give back: at the rates of the schedules where the matched units rose, or at the step's own.
-ghost use Rattle.std.specs.Prelude.{◌≡◌, ◌<◌, ◌^◌};
+ghost use Rattle.std.specs.Prelude.{◌≡◌, cond, ◌<◌, ◌^◌, eqb};
 ghost use Rattle.rules.specs.Fold.{five};
 ghost use Rattle.rules.specs.Payments as paper;
 ghost use Rattle.step_matching.specs.Ledgers.{match_row};
@@ -23,6 +23,14 @@ pub fn given_back(m: [u32; 5], rate: [u32; 5]) -> u64
     sum
 }
 
+// The same where the initial payment takes something back, else 0.
+fn given_if_taken(initial: u64, m: [u32; 5], rate: [u32; 5]) -> u64
+    requires { given_at m rate < 2 ^ 64 }
+    ensures { result ≡ cond (eqb initial 0) 0 (given_at m rate) }
+{
+    if initial == 0 { 0 } else { given_back(m, rate) }
+}
+
 // What the revised payments take back, from the side, prices and market prices of a step, the match table and what the initial payments take back.
 #[tactic(auto, unfolding(crate::specs::Amounts::revised_given))]
 pub fn revised_rows(
@@ -36,10 +44,14 @@ pub fn revised_rows(
     ensures { result ≡ five (revised_in side price market t initial) }
 {
     from_fn(|s| {
-        if s == 0 || initial[s] == 0 {
+        if s == 0 {
             0
         } else {
-            given_back(t[s], revised_rates(side, price, price[s], market[s]))
+            given_if_taken(
+                initial[s],
+                t[s],
+                revised_rates(side, price, price[s], market[s]),
+            )
         }
     })
 }
@@ -58,10 +70,10 @@ pub fn modified_minus(x: Step, t: [[u32; 5]; 5], rate: [u32; 5], initial: [u64; 
     ensures { result ≡ five (minus_of (paper.modified x)) }
 {
     from_fn(|s| {
-        if s == 0 || initial[s] == 0 {
+        if s == 0 {
             0
         } else {
-            given_back(t[s], rate)
+            given_if_taken(initial[s], t[s], rate)
         }
     })
 }

@@ -1,7 +1,6 @@
 -- `step_payments::given_back::modified_minus` meets its contract, schedule by schedule.
 use Rattle.std.proofs.Common.{rules, arith, ℕ, ◌<◌, ◌^◌, refl, []}
 use Rattle.std.proofs.Math.ListN.{get_or}
-use Rattle.std.proofs.lemmas.Bool.Decides.{nat_tests}
 use Rattle.std.proofs.iter.Serving.{serving}
 use Rattle.rules.specs.Payments.{modified, rate}
 use Rattle.step_payments.specs.Amounts.{given_at, minus_of}
@@ -15,14 +14,14 @@ from_fn-requires c =
     let r = c.requires in
     let fits : (s : ℕ) → s < 5 → given_at (get_or c.args.t s []) c.args.rate < 2 ^ 64 =
     λ s h. given_fits x s (rate x) h (row_is x refl r.1 s h) r.2 r.0 (λ i. rate_most x i r.0) in
-    grind (arith, serving, fits)
+    search (rules, serving, fits)
 
 pub returns : goal.returns
 returns c =
     let x = c.args.x in
     let r = c.requires in
-    row_five (minus_of (modified x)) c.from_fn.result (search rules) (modified_row x r.1 r.2 r.3 0 (omega arith) (grind (arith, nat_tests)))
-    (modified_row x r.1 r.2 r.3 1 (omega arith) (grind (arith, nat_tests)))
-    (modified_row x r.1 r.2 r.3 2 (omega arith) (grind (arith, nat_tests)))
-    (modified_row x r.1 r.2 r.3 3 (omega arith) (grind (arith, nat_tests)))
-    (modified_row x r.1 r.2 r.3 4 (omega arith) (grind (arith, nat_tests)))
+    row_five (minus_of (modified x)) c.from_fn.result (search rules) (modified_row x r.1 r.2 r.3 0 (omega arith) (search rules))
+    (modified_row x r.1 r.2 r.3 1 (omega arith) (search rules))
+    (modified_row x r.1 r.2 r.3 2 (omega arith) (search rules))
+    (modified_row x r.1 r.2 r.3 3 (omega arith) (search rules))
+    (modified_row x r.1 r.2 r.3 4 (omega arith) (search rules))
