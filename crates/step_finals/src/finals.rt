@@ -6,9 +6,9 @@ ghost use Rattle.step_payments.specs.Sizes.{Sized};
 ghost use Rattle.step_payments.specs.Amounts.{minus_of, money_of};
 ghost use Rattle.step_pool.specs.Amounts.{sum_in, taken_with, money_sum, no_money, changes_on, final_taken, taken_on, Sharing, SharedOn, MoneyAddable};
 
-use crate::final_shares::{Shares, taken_in};
-use numbers::{lesser64, share, wide};
+use crate::final_shares::{Shares, taken_in, with_share};
 use rules::Step;
+use std::array::from_fn;
 use step_changes::rates::rates;
 use step_matching::matches::match_table;
 use step_payments::amounts::Money;
@@ -22,26 +22,33 @@ pub fn final_taken(x: Step, h: Shares, c: [u32; 5], rate: [u32; 5], v: Changes) 
     requires { (Sized x) × (SharedOn x h.total h.base) × (c ≡ paper.on_step x) × (rate ≡ five (paper.rate x)) × (v ≡ changes_on x) }
     ensures { result ≡ five (taken_on x h.total h.base) }
 {
-    let sd = x.side;
-    let p = x.price;
-    let q = x.market;
-    let f = x.flag;
-    let d = v.falls;
-    let i = v.minus;
-    let t = h.total;
-    let b = h.base;
     let m = match_table(c);
-    [
-        0,
-        taken_in(f[1], i[1], sd, p, p[1], q[1], m[1], rate, d[1], t[1], b[1]),
-        taken_in(f[2], i[2], sd, p, p[2], q[2], m[2], rate, d[2], t[2], b[2]),
-        taken_in(f[3], i[3], sd, p, p[3], q[3], m[3], rate, d[3], t[3], b[3]),
-        taken_in(f[4], i[4], sd, p, p[4], q[4], m[4], rate, d[4], t[4], b[4]),
-    ]
+    let Shares { total, base } = h;
+    let Changes { falls, minus, .. } = v;
+    from_fn(|s| {
+        if s == 0 {
+            0
+        } else {
+            taken_in(
+                x.flag[s],
+                minus[s],
+                x.side,
+                x.price,
+                x.price[s],
+                x.market[s],
+                m[s],
+                rate,
+                falls[s],
+                total[s],
+                base[s],
+            )
+        }
+    })
 }
 
 // What the final payment takes back in a schedule after the first with clawback on, where the revised and the modified payment are worked
 // out: from the flag, what the initial, the revised and the modified payment take back, the fall, T and B.
+#[tactic(auto, unfolding(step_pool::specs::Amounts::final_taken))]
 fn final_in(
     flag: u32,
     initial: u64,
@@ -55,15 +62,12 @@ fn final_in(
     ensures { result ≡ final_taken flag initial revised modified fall total base }
 {
     if initial == 0 {
-        return 0;
+        0
+    } else if flag == 1 {
+        modified
+    } else {
+        with_share(initial, revised, fall, total, base)
     }
-    if flag == 1 {
-        return modified;
-    }
-    if total == 0 {
-        return revised;
-    }
-    lesser64(initial, revised + share(total, wide(fall), base))
 }
 
 // What the final payments take back with clawback on, from T and B of the step's side, the step's changes and what its revised and modified
@@ -73,18 +77,21 @@ pub fn final_rows(x: Step, h: Shares, v: Changes, revised: [u64; 5], modified: [
         × (modified ≡ five (minus_of (paper.modified x))) }
     ensures { result ≡ five (taken_on x h.total h.base) }
 {
-    let f = x.flag;
-    let d = v.falls;
-    let i = v.minus;
-    let t = h.total;
-    let b = h.base;
-    [
-        0,
-        final_in(f[1], i[1], revised[1], modified[1], d[1], t[1], b[1]),
-        final_in(f[2], i[2], revised[2], modified[2], d[2], t[2], b[2]),
-        final_in(f[3], i[3], revised[3], modified[3], d[3], t[3], b[3]),
-        final_in(f[4], i[4], revised[4], modified[4], d[4], t[4], b[4]),
-    ]
+    from_fn(|s| {
+        if s == 0 {
+            0
+        } else {
+            final_in(
+                x.flag[s],
+                v.minus[s],
+                revised[s],
+                modified[s],
+                v.falls[s],
+                h.total[s],
+                h.base[s],
+            )
+        }
+    })
 }
 
 // The sum of two amounts of money.
@@ -92,13 +99,9 @@ pub fn money_add(a: Money, b: Money) -> Money
     requires { MoneyAddable a b }
     ensures { result ≡ money_sum a b }
 {
-    let plus = a.plus;
-    let minus = a.minus;
-    let more_plus = b.plus;
-    let more_minus = b.minus;
     Money {
-        plus: add_rows(plus, more_plus),
-        minus: add_rows(minus, more_minus),
+        plus: add_rows(a.plus, b.plus),
+        minus: add_rows(a.minus, b.minus),
     }
 }
 
@@ -111,9 +114,7 @@ pub fn initial_with(m: Money, x: Step) -> Money
     if most(c) == 0 {
         return m;
     }
-    let v = changes_on(x, c, rates(x));
-    let plus = v.plus;
-    let minus = v.minus;
+    let Changes { plus, minus, .. } = changes_on(x, c, rates(x));
     money_add(m, Money { plus, minus })
 }
 
@@ -122,8 +123,7 @@ pub fn taken_with(m: Money, x: Step, h: Shares) -> Money
     requires { (Sized x) × (SharedOn x h.total h.base) × ((s : ℕ) → sum_in m.minus (five (taken_on x h.total h.base)) s < 2 ^ 64) }
     ensures { result ≡ taken_with m (five (taken_on x h.total h.base)) }
 {
-    let plus = m.plus;
-    let taken = m.minus;
+    let Money { plus, minus: taken } = m;
     let c = constrained_on(x);
     let rate = rates(x);
     let v = changes_on(x, c, rate);

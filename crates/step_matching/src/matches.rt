@@ -4,31 +4,27 @@ ghost use Rattle.rules.specs.Fold.{five};
 ghost use Rattle.rules.specs.Matching.{ten_matches};
 ghost use Rattle.step_matching.specs.Ledgers.{match_row};
 
-use crate::open_rises::Ledger;
+use crate::open_rises::{Ledger, Matched};
+use std::array::from_fn;
 
-// m(r, s) at row s and column r, from C
+// m(r, s) at row s and column r, from C. The loop maintains that the rows before s are in `table`, and that `open` has the rises that are open
+// before schedule s.
 pub fn match_table(c: [u32; 5]) -> [[u32; 5]; 5]
     ensures { result ≡ five (match_row c) }
 {
-    let first = Ledger::empty().enter(0, c[0]);
-    let second = first.next.enter(c[0], c[1]);
-    let third = second.next.enter(c[1], c[2]);
-    let fourth = third.next.enter(c[2], c[3]);
-    let fifth = fourth.next.enter(c[3], c[4]);
-    let m2 = second.matches;
-    let m3 = third.matches;
-    let m4 = fourth.matches;
-    let m5 = fifth.matches;
-    [
-        [0, 0, 0, 0, 0],
-        [m2[0], 0, 0, 0, 0],
-        [m3[1], m3[0], 0, 0, 0],
-        [m4[2], m4[1], m4[0], 0, 0],
-        [m5[3], m5[2], m5[1], m5[0], 0],
-    ]
+    let mut table = [[0; 5]; 5];
+    let mut open = Ledger::empty();
+    let mut before = 0;
+    for s in 0..5 {
+        let Matched { matches, next } = open.enter(before, c[s]);
+        table[s] = from_fn(|r| if r < s { matches[s - 1 - r] } else { 0 });
+        open = next;
+        before = c[s];
+    }
+    table
 }
 
-// m(1,2) m(1,3) m(2,3) m(1,4) .. m(4,5), from C
+// m(1,2) m(1,3) m(2,3) m(1,4) .. m(4,5), from C. Written out, since the places show the order.
 pub fn ten_matches(c: [u32; 5]) -> [u32; 10]
     ensures { result ≡ ten_matches c }
 {

@@ -2,7 +2,7 @@
 ghost use Rattle.std.specs.Prelude.{◌≡◌, replicate};
 ghost use Rattle.step_matching.specs.Ledgers.{entered};
 
-use numbers::{lesser, saturating_sub};
+use std::array::from_fn;
 
 // What is left of the rises of the schedules before, the latest first. At most four are open before a schedule.
 #[derive(Clone, Copy)]
@@ -30,23 +30,23 @@ impl Ledger {
     pub fn enter(self, before: u32, now: u32) -> Matched
         ensures { result ≡ entered self before now }
     {
-        let open = self.rises;
-        let fall = saturating_sub(before, now);
-        let first = lesser(fall, open[0]);
-        let past_first = fall - first;
-        let second = lesser(past_first, open[1]);
-        let past_second = past_first - second;
-        let third = lesser(past_second, open[2]);
-        let fourth = lesser(past_second - third, open[3]);
-        let left = [
-            saturating_sub(now, before),
-            open[0] - first,
-            open[1] - second,
-            open[2] - third,
-        ];
+        let mut fall = before.saturating_sub(now);
+        let matches = self.rises.map(|open| {
+            let taken = fall.min(open);
+            fall -= taken;
+            taken
+        });
         Matched {
-            matches: [first, second, third, fourth],
-            next: Ledger { rises: left },
+            matches,
+            next: Ledger {
+                rises: from_fn(|r| {
+                    if r == 0 {
+                        now.saturating_sub(before)
+                    } else {
+                        self.rises[r - 1] - matches[r - 1]
+                    }
+                }),
+            },
         }
     }
 }

@@ -6,7 +6,6 @@ ghost use Rattle.rules.specs.Payments as paper;
 ghost use Rattle.step_pool.specs.Amounts.{changes_on, all_zero};
 
 use crate::pool_amounts::Changes;
-use numbers::{greater, greater64, lesser};
 use rules::Step;
 use step_changes::rises_falls::{falls, only_paid, products, rises};
 
@@ -14,30 +13,21 @@ use step_changes::rises_falls::{falls, only_paid, products, rises};
 pub fn all_zero(v: [u64; 5]) -> bool
     ensures { result ≡ all_zero v }
 {
-    let a = greater64(v[0], v[1]);
-    let b = greater64(a, v[2]);
-    let c = greater64(b, v[3]);
-    greater64(c, v[4]) == 0
+    v.into_iter().fold(0, u64::max) == 0
 }
 
 // The least of five.
 pub fn least(q: [u32; 5]) -> u32
     ensures { result ≡ least_from q 0 4 }
 {
-    let d = lesser(q[3], q[4]);
-    let c = lesser(q[2], d);
-    let b = lesser(q[1], c);
-    lesser(q[0], b)
+    q.into_iter().fold(u32::MAX, u32::min)
 }
 
 // The greatest of five.
 pub fn most(q: [u32; 5]) -> u32
     ensures { result ≡ most_to 5 (at q) }
 {
-    let a = greater(q[0], q[1]);
-    let b = greater(a, q[2]);
-    let c = greater(b, q[3]);
-    greater(c, q[4])
+    q.into_iter().fold(0, u32::max)
 }
 
 // From C and R.
@@ -45,9 +35,8 @@ pub fn changes_on(x: Step, c: [u32; 5], rate: [u32; 5]) -> Changes
     requires { (c ≡ paper.on_step x) × (rate ≡ five (paper.rate x)) }
     ensures { result ≡ changes_on x }
 {
-    let paid = x.paid;
-    let rise = only_paid(paid, rises(c));
-    let fall = only_paid(paid, falls(c));
+    let rise = only_paid(x.paid, rises(c));
+    let fall = only_paid(x.paid, falls(c));
     Changes {
         rises: rise,
         falls: fall,

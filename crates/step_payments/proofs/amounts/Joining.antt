@@ -4,10 +4,10 @@ use native.Mathlib.Nat.{zero-mul}
 use native.Mathlib.Decide.{dec_lt}
 use native.Mathlib.Omega.{arith}
 use mathlib.Core.Path.{◌≡◌, refl, sym, ◌∙◌}
-use mathlib.Core.Bool.{cond}
+use mathlib.Core.Bool.{cond, ◌||◌}
 use mathlib.Core.List.{List, []}
 use lib.Dec.{eqb}
-use lib.ListN.{get_or}
+use lib.ListN.{get_or, length}
 use borrow.Author.Tests.{ne_eqb}
 use Rattle.rules.specs.Fold.{sum_to, five, at}
 use Rattle.rules.specs.Layout.{quantity_most, price_most}
@@ -16,7 +16,8 @@ use Rattle.rules.specs.Payments.{on_step, rate, revised_rate, is_paid, initial, 
 use Rattle.rules.specs.declared.Step.{Step}
 use Rattle.laws.specs.Folds.{sum_suc, sum_same, at_five}
 use Rattle.laws.specs.Ints.{pl, mi}
-use Rattle.numbers.specs.Fives.{five_same}
+use Rattle.std.proofs.lemmas.List.FromFn.{fill_by_all}
+use Rattle.numbers.specs.Fives.{five_is, five_same}
 use Rattle.step_matching.specs.Ledgers.{match_row}
 use Rattle.step_matching.specs.Balance.{matched_out}
 use Rattle.step_payments.specs.Sizes.{Sized, matched_at, rate_most, revised_rate-most, fall_most, given_back_most}
@@ -24,6 +25,10 @@ use Rattle.step_payments.specs.Parts.{change_on, initial_plus, initial_minus, re
 use Rattle.step_payments.specs.Kinds.{revised_first, modified_first}
 use Rattle.step_payments.specs.Amounts.{given_at, RevisedFits, revised_given, revised_in, plus_of, minus_of}
 use Rattle.step_changes.specs.Changes.{only_paid, product_in, revised_at}
+
+-- a row of five by its places
+pub row_five : (f : ℕ → ℕ) (w : List ℕ) → length w ≡ 5 → at w 0 ≡ f 0 → at w 1 ≡ f 1 → at w 2 ≡ f 2 → at w 3 ≡ f 3 → at w 4 ≡ f 4 → w ≡ five f
+row_five f w h a b c d e = fill_by_all (at w) w 5 0 h (λ k l. refl) ∙ five_is f a b c d e
 
 -- a sum whose terms from s on are 0
 sum_cut : (s n : ℕ) (f : ℕ → ℕ) → ((r : ℕ) → s ≤ r → f r ≡ 0) → s ≤ n → sum_to n f ≡ sum_to s f
@@ -91,6 +96,14 @@ module _ (x : Step) {c : List ℕ} {t : List (List ℕ)} (p : c ≡ on_step x) (
 pub modified_entry_first : (x : Step) → 0 ≡ minus_of (modified x) 0
 unfolding minus_of
 modified_entry_first x = sym (modified_first x)
+
+-- what modified takes back, from the match table, the rates and what the initial payments take back
+pub modified_row : (x : Step) {t : List (List ℕ)} {r i : List ℕ} → t ≡ five (match_row (on_step x)) → r ≡ five (rate x) → i ≡ five (minus_of (initial x))
+    → (s : ℕ) → s < 5 → {g : ℕ} → g ≡ cond (eqb s 0 || eqb (at i s) 0) 0 (given_at (get_or t s []) r) → g ≡ minus_of (modified x) s
+modified_row x e f w zero h q = q ∙ modified_entry_first x
+modified_row x {i = i} e f w (suc s) h q =
+    let p : at i (suc s) ≡ minus_of (initial x) (suc s) = rw w (at_five (minus_of (initial x)) 0 (suc s) h) in
+    modified_entry x (suc s) h (row_is x refl e (suc s) h) f p (q ∙ rw (ne_eqb (suc s) 0 (λ z. omega arith)) refl)
 
 -- the rises or the falls of a paid step
 pub change_row : (x : Step) (change : List ℕ → ℕ → ℕ) {c q u : List ℕ} → c ≡ on_step x → q ≡ five (change c) → u ≡ five (only_paid x.paid q) → u ≡ five (change_on change x)

@@ -19,10 +19,10 @@ use Rattle.step_payments.specs.Sizes.{Sized}
 use Rattle.step_payments.specs.Parts.{change_on, initial_minus, taken_back, shared_total, revised_plus, revised_taken_lem, modified_minus, final_plus, final_minus}
 use Rattle.step_payments.specs.Kinds.{initial_first, fall_within}
 use Rattle.step_payments.specs.Amounts.{plus_of, minus_of}
-use Rattle.step_payments.proofs.amounts.Joining.{given_most, revised_rate_most}
+use Rattle.step_payments.proofs.amounts.Joining.{given_most, revised_rate_most, revised_pays}
 use Rattle.step_pool.specs.declared.pool_amounts.SidePool.{SidePool}
 use Rattle.step_pool.specs.declared.pool_amounts.Changes.{Changes}
-use Rattle.step_pool.specs.Amounts.{changes_on, differ_in, differs_on, pool_at, total_in, base_in, final_taken, taken_on, SharedOn, InPool, final_on}
+use Rattle.step_pool.specs.Amounts.{changes_on, step_pool, differ_in, differs_on, pool_at, total_in, base_in, final_taken, taken_on, SharedOn, InPool, final_on}
 
 -- the rows of a step's changes
 module _ (x : Step) (v : Changes) (e : v ≡ changes_on x) where
@@ -59,6 +59,17 @@ differ_row x e f g =
 -- a row read as wider numbers
 pub wide_row : (f : ℕ → ℕ) {u w : List ℕ} → u ≡ five f → w ≡ five (at u) → w ≡ five f
 wide_row f e g = rw (g, e)
+
+-- what a step adds to its side's pool, from its changes
+pub full_pool : (x : Step) {v : Changes} {m d : List ℕ} → v ≡ changes_on x → m ≡ five (minus_of (revised x)) → d ≡ five (differ_in m v.minus)
+    → ◌≡◌ {A = SidePool} (record { plus = v.plus; minus = m; rises = five (at v.rises); falls = five (at v.falls); differs = d }) (step_pool x)
+unfolding step_pool
+full_pool x {v} e f g =
+    let plus = of_plus x v e ∙ revised_pays x in
+    let rises = wide_row (change_on rise x) (of_rises x v e) refl in
+    let falls = wide_row (change_on fall x) (of_falls x v e) refl in
+    let differs = differ_row x f (of_minus x v e) g in
+    λ i. record { plus = plus i; minus = f i; rises = rises i; falls = falls i; differs = differs i }
 
 -- the pool's T and B
 total_by : (n t : ℕ) → cond (ltb 0 n) t 0 ≡ cond (eqb n 0) 0 t

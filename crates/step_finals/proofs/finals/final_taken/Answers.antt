@@ -1,37 +1,25 @@
 -- `step_finals::finals::final_taken` meets its contract: schedule by schedule.
-use native.Mathlib.Omega.{arith}
-use borrow.Author.Rules.{rules}
-use mathlib.Core.Path.{refl}
-use Rattle.numbers.specs.Fives.{five_is}
-use Rattle.step_payments.specs.Amounts.{revised_given}
-use Rattle.step_pool.specs.Amounts.{taken_on}
+use Rattle.std.proofs.Common.{rules, arith, ℕ, ◌<◌, ◌^◌, []}
+use Rattle.std.proofs.Math.ListN.{get_or}
+use Rattle.std.proofs.iter.Serving.{serving}
+use Rattle.rules.specs.Fold.{at}
+use Rattle.step_payments.specs.Amounts.{revised_given, given_at}
+use Rattle.step_payments.proofs.amounts.Joining.{row_five}
+use Rattle.step_pool.specs.Amounts.{taken_on, Sharing}
 use Rattle.step_finals.proofs.finals.Pieces.{asked, given}
 use Rattle.step_finals.proofs.finals.final_taken.Goals as goal
 
-pub taken_in-requires : goal.taken_in-requires
+pub from_fn-requires : goal.from_fn-requires
 unfolding revised_given
-taken_in-requires c =
+from_fn-requires c =
     let r = c.requires in
-    asked c.args.x r.4 1 (omega arith) r.2 r.3 c.match_table-m.ensures r.0 r.1
-
-pub taken_in-requires-2 : goal.taken_in-requires-2
-unfolding revised_given
-taken_in-requires-2 c =
-    let r = c.requires in
-    asked c.args.x r.4 2 (omega arith) r.2 r.3 c.match_table-m.ensures r.0
-    r.1
-
-pub taken_in-requires-3 : goal.taken_in-requires-3
-unfolding revised_given
-taken_in-requires-3 c =
-    let r = c.requires in
-    asked c.args.x r.4 3 (omega arith) r.2 r.3 c.match_table-m.ensures r.0 r.1
-
-pub taken_in-requires-4 : goal.taken_in-requires-4
-unfolding revised_given
-taken_in-requires-4 c =
-    let r = c.requires in
-    asked c.args.x r.4 4 (omega arith) r.2 r.3 c.match_table-m.ensures r.0 r.1
+    let g = c.args in
+    let t = c.match_table-m.result in
+    let asks : (s : ℕ) → s < 5
+    → (Sharing (at g.v.minus s) (revised_given g.x.side g.x.price g.x.market t s) (at g.v.falls s) (at g.h.total s) (at g.h.base s))
+    × (given_at (get_or t s []) g.rate < 2 ^ 64) =
+    λ s h. asked g.x r.4 s h r.2 r.3 c.match_table-m.ensures r.0 r.1 in
+    search (rules, serving, asks)
 
 pub returns : goal.returns
 unfolding taken_on revised_given
@@ -40,11 +28,8 @@ returns c =
     let h = c.args.h in
     let r = c.requires in
     let m = c.match_table-m.ensures in
-    five_is (taken_on x h.total h.base) refl
-    (given x r.4 1 (omega arith) r.2 r.3 m h.total h.base (omega arith)
-    c.taken_in.ensures)
-    (given x r.4 2 (omega arith) r.2 r.3 m h.total h.base (omega arith)
-    c.taken_in-2.ensures)
-    (given x r.4 3 (omega arith) r.2 r.3 m h.total h.base (omega arith)
-    c.taken_in-3.ensures)
-    (given x r.4 4 (omega arith) r.2 r.3 m h.total h.base (omega arith) c.taken_in-4.ensures)
+    row_five (taken_on x h.total h.base) c.from_fn.result (search rules) (search rules)
+    (given x r.4 1 (omega arith) r.2 r.3 m h.total h.base (omega arith) (search rules))
+    (given x r.4 2 (omega arith) r.2 r.3 m h.total h.base (omega arith) (search rules))
+    (given x r.4 3 (omega arith) r.2 r.3 m h.total h.base (omega arith) (search rules))
+    (given x r.4 4 (omega arith) r.2 r.3 m h.total h.base (omega arith) (search rules))

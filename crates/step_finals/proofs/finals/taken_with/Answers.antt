@@ -1,5 +1,4 @@
 -- `step_finals::finals::taken_with` meets its contract.
-use borrow.Author.Rules.{rules}
 use Rattle.step_pool.specs.Amounts.{taken_with}
 use Rattle.step_finals.proofs.finals.taken_with.Goals as goal
 

@@ -1,5 +1,4 @@
 -- `step_matching::matches::ten_matches` meets its contract.
-use borrow.Author.Rules.{rules}
 use Rattle.rules.specs.Matching.{ten_matches}
 use Rattle.step_matching.specs.Ledgers.{match_row}
 use Rattle.step_matching.proofs.matches.ten_matches.Goals as goal

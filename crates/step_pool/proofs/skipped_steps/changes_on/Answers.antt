@@ -1,5 +1,4 @@
 -- `step_pool::skipped_steps::changes_on` meets its contract: row by row.
-use borrow.Author.Rules.{rules}
 use Rattle.rules.specs.Matching.{rise, fall}
 use Rattle.step_pool.specs.Amounts.{changes_on}
 use Rattle.step_payments.proofs.amounts.Joining.{change_row, plus_row, minus_row}
