@@ -1,80 +1,73 @@
 -- The code's sums over a group, one schedule after another; sizes and signs of totals.
 use Prim.Native.Nat.{ℕ, suc, ◌+◌, ◌-◌, ◌<◌, ◌≤◌, ◌^◌}
 use native.Mathlib.Omega.{arith}
-use native.Mathlib.Numerals.{add-one}
-use mathlib.Core.Path.{◌≡◌, refl, sym, ◌∙◌, ap}
+use mathlib.Core.Path.{◌≡◌, refl}
 use mathlib.Core.List.{List}
-use mathlib.Core.Bool.{true, false}
-use lib.IntN.{ℤ, pos, negsuc, neg_ℤ, nat_abs, sub_ℕ}
-use mir.Syntax.{w64}
-use mir.Val.{to_z, of_z}
-use borrow.Author.Tests.{eq-eqb, ne_eqb}
+use mathlib.Core.Bool.{Bool, true, false, not, ◌&&◌}
+use lib.IntN.{ℤ}
+use Rattle.std.specs.declared.cmp.Ordering.{Ordering}
+use Rattle.std.specs.declared.cmp.Ordering.TheVariants.{Less, Equal, Greater}
+use Rattle.std.specs.Ordering.{ordering_index}
+use Rattle.std.specs.Bool.{◌==◌}
 use Rattle.rules.specs.Fold.{five, at, at_z}
 use Rattle.rules.specs.Totals.{adjusted}
-use Rattle.rules.specs.Book.{bits64}
-use Rattle.rules.specs.Uplift.{below, share_of}
-use Rattle.laws.specs.Ints.{mi, eq_z, pl_subℕ, mi_subℕ, pl_neg, mi_neg}
-use Rattle.day_totals.specs.Sizes.{Bounded, read_back, total_fits}
+use Rattle.rules.specs.Uplift.{share_of}
+use Rattle.laws.specs.Ints.{mi}
+use Rattle.day_totals.specs.Rows.{Row}
+use Rattle.day_totals.specs.Sizes.{Bounded}
 use Rattle.numbers.specs.Fives.{five_same}
-use Rattle.day_shares.specs.Groups.{before, whole, Small, link_at, signs_of, links_of, before_most, before_next, whole_next}
-use Rattle.day_shares.specs.Parts.{size_at, signed_size, Divisibles, quotient_at, rest_at, unit_at, share_at, weights, parts, amounts, wholes, sizes_of, rests_of, units_of, size_fits, sizes_small, rests_small, units_small, quotients_small, divisibles, share_is}
+use Rattle.day_shares.specs.Groups.{before, whole, Small, link_of, linked, link_at, signs_of, links_of, before_most, before_next, whole_next}
+use Rattle.day_shares.specs.Parts.{size_at, Divisibles, quotient_at, rest_at, unit_at, share_at, weights, parts, amounts, wholes, sizes_of, rests_of, units_of, sizes_small, rests_small, units_small, quotients_small, divisibles, share_is}
 
-module _ (l x : List ℕ) (s v : ℕ) (e : v ≡ before l x s) where
-  -- the group begins after s, or goes on
-  pub before_begins : at l (s + 1) ≡ 0 → 0 ≡ before l x (s + 1)
-  before_begins z = let z' = rw (add-one s) at z in rw (add-one s, before_next l x s, eq-eqb (at l (suc s)) 0 z')
+-- neighbours are of one group where their signs are equal and not that of 0
+pub link_is : (a b : Ordering) → link_of a b ≡ (not (ordering_index a == 1) && (ordering_index a == ordering_index b))
+link_is Less Less = refl
+link_is Less Equal = refl
+link_is Less Greater = refl
+link_is Equal b = refl
+link_is Greater Less = refl
+link_is Greater Equal = refl
+link_is Greater Greater = refl
 
-  pub before_goes : (at l (s + 1) ≡ 0 → ⊥) → v + at x s ≡ before l x (s + 1)
-  before_goes z = let z' = rw (add-one s) at z in rw (add-one s, before_next l x s, ne_eqb (at l (suc s)) 0 z', e)
+-- the code's sums over a group
+pub sum_fits : (l : List Bool) (x : List ℕ) (s v : ℕ) → Small x → s < 5 → v ≡ before l x s → v + at x s < 2 ^ 64
+sum_fits l x s v h g e =
+    let b = before_most l x h s g in
+    let o = h.most s g in
+    omega arith
 
-  -- with the schedule's own
-  pub sum_fits : Small x → s < 5 → v + at x s < 2 ^ 64
-  sum_fits h g =
-      let b = before_most l x h s g in
-      let o = h.most s g in
-      omega arith
+module _ (l : List Bool) (x : List ℕ) {g : ℕ → ℕ} (y : List ℕ) (s : ℕ) (r : Row 0 (before l x) g y s) (h : 0 < s) (k : s < 5) where
+  -- the group of s goes on after the schedule before it, or begins with s
+  pub before_goes : linked l s ≡ true → at y (s - 1) + at x (s - 1) ≡ before l x s
+  before_goes e =
+      let p : suc (s - 1) ≡ s = omega arith in
+      let q = rw p at (before_next l x (s - 1)) in
+      rw (r.below (s - 1) (omega arith), q, e)
 
-  pub whole_ends : s < 4 → at l (s + 1) ≡ 0 → v + at x s ≡ whole l x s
-  whole_ends g z = let z' = rw (add-one s) at z in rw (whole_next l x s g, eq-eqb (at l (suc s)) 0 z', e)
+  pub before_begins : linked l s ≡ false → 0 ≡ before l x s
+  before_begins e =
+      let p : suc (s - 1) ≡ s = omega arith in
+      let q = rw p at (before_next l x (s - 1)) in
+      rw (q, e)
 
-  pub whole_goes : (w : ℕ) → w ≡ whole l x (s + 1) → s < 4 → (at l (s + 1) ≡ 0 → ⊥) → w ≡ whole l x s
-  whole_goes w k g z =
-      let z' = rw (add-one s) at z in
-      let k' = rw (add-one s) at k in
-      rw (whole_next l x s g, ne_eqb (at l (suc s)) 0 z') k'
+module _ (l : List Bool) (x y : List ℕ) (s : ℕ) (r : Row 0 (before l x) (whole l x) y s) (h : 0 < s) (k : s ≤ 4) where
+  -- the group of s - 1 goes on, or ends with it
+  pub whole_goes : linked l (s - 1 + 1) ≡ true → at y (s - 1 + 1) ≡ whole l x (s - 1)
+  whole_goes e =
+      let p : s - 1 + 1 ≡ s = omega arith in
+      let n : suc (s - 1) ≡ s = omega arith in
+      let q = rw n at (whole_next l x (s - 1) (omega arith)) in
+      rw (p, q, rw p at e) (r.above s (omega arith) (omega arith))
 
--- the bits of a total and its size
-module _ (t : List ℤ) (b : Bounded t) (s : ℕ) (l : s < 5) where
-  pub own_total : to_z w64 (of_z w64 (at_z t s)) ≡ at_z t s
-  own_total = read_back refl (total_fits t b s l)
-
-  bits_by : (z : ℤ) → nat_abs z < 2 ^ 63 → (bits64 z < 2 ^ 63 → bits64 z ≡ nat_abs z) × (2 ^ 63 ≤ bits64 z → (18446744073709551615 - bits64 z) + 1 ≡ nat_abs z)
-  bits_by (pos n) h = (λ g. refl, λ g. absurd (omega arith))
-  bits_by (negsuc n) h = (λ g. absurd (omega arith), λ g. omega arith)
-
-  module _ (n : ℕ) (e : n ≡ bits64 (to_z w64 (of_z w64 (at_z t s)))) where
-    bits_are : n ≡ bits64 (at_z t s)
-    bits_are = e ∙ ap bits64 own_total
-
-    pub size_low : n < 2 ^ 63 → n ≡ size_at t s
-    size_low g = bits_are ∙ (bits_by (at_z t s) (size_fits t b s l)).0 (rw (sym bits_are) g)
-
-    pub size_high : 2 ^ 63 ≤ n → (18446744073709551615 - n) + 1 ≡ size_at t s
-    size_high g = rw bits_are ((bits_by (at_z t s) (size_fits t b s l)).1 (rw (sym bits_are) g))
-
-  -- a size with the sign of a total
-  pub signed_below : (n : ℕ) → below (to_z w64 (of_z w64 (at_z t s))) ≡ true → sub_ℕ 0 n ≡ signed_size (at_z t s) n
-  signed_below n e =
-      let f : below (at_z t s) ≡ true = rw own_total at e in
-      rw f (eq_z (sub_ℕ 0 n) (neg_ℤ (pos n)) (omega (arith, pl_subℕ 0 n, mi_subℕ 0 n, pl_neg (pos n), mi_neg (pos n))))
-
-  pub signed_above : (n : ℕ) → below (to_z w64 (of_z w64 (at_z t s))) ≡ false → sub_ℕ n 0 ≡ signed_size (at_z t s) n
-  signed_above n e =
-      let f : below (at_z t s) ≡ false = rw own_total at e in
-      rw f (eq_z (sub_ℕ n 0) (pos n) (omega (arith, pl_subℕ n 0, mi_subℕ n 0)))
+  pub whole_ends : linked l (s - 1 + 1) ≡ false → at y (s - 1) + at x (s - 1) ≡ whole l x (s - 1)
+  whole_ends e =
+      let p : s - 1 + 1 ≡ s = omega arith in
+      let n : suc (s - 1) ≡ s = omega arith in
+      let q = rw n at (whole_next l x (s - 1) (omega arith)) in
+      rw (q, rw p at e, r.below (s - 1) (omega arith))
 
 -- the code's rows are those of the totals, each from the ones before it
-module _ (t a : List ℤ) (g l w p m c : List ℕ) where
+module _ (t a : List ℤ) (g : List Ordering) (l : List Bool) (w p m c : List ℕ) where
   pub record Sums : Type 0 where
     pub link : l ≡ links_of t
     pub weight : w ≡ weights t
@@ -87,7 +80,7 @@ module _ (t a : List ℤ) (g l w p m c : List ℕ) where
       let p' : p ≡ parts t = rw (pe, ae) in
       record { link = l'; weight = we; amount = rw (me, l', p'); sum = rw (ce, l', we) }
 
-module _ {t a : List ℤ} {g l w p m c : List ℕ} (k : Sums t a g l w p m c) where
+module _ {t a : List ℤ} {g : List Ordering} {l : List Bool} {w p m c : List ℕ} (k : Sums t a g l w p m c) where
   -- what the code asks of them
   pub divisible : Bounded t → mi (at_z t 0) ≡ 0 → Divisibles w m c
   divisible b h = rw (k.weight, k.amount, k.sum) (divisibles t b h)

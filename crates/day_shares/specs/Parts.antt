@@ -9,8 +9,9 @@ use Rattle.rules.specs.Totals.{adjusted}
 use Rattle.rules.specs.Uplift.{above, below, same_group, group_total, group_adjusted, product, rounded_size, leaves_remainder, units_left, remainders_before, unit_for, share_size, share_of}
 use Rattle.laws.specs.Ints.{mi}
 use Rattle.laws.specs.Folds.{sum_same, at_five}
+use Rattle.numbers_wide.specs.declared.Division.{Division}
 use Rattle.numbers.specs.Shares.{share_most}
-use Rattle.day_totals.specs.Sizes.{Bounded, size}
+use Rattle.day_totals.specs.Sizes.{Bounded}
 use Rattle.uplift_laws.specs.Signs.{has_sign, Sign, none, some, sign_of, size_is, adjusted_between, own_group, same_group_lem, group_total_lem, group_adjusted_lem, group_most, group_some}
 use Rattle.day_shares.specs.Groups.{before, whole, Small, links_of, group_to, before_is, whole_is}
 
@@ -36,7 +37,11 @@ quotient_at w a c s = at w s * at a s / at c s
 abbrev pub rest_at : List ℕ → List ℕ → List ℕ → ℕ → ℕ
 rest_at w a c s = bit (ltb 0 (at w s * at a s % at c s))
 
-abbrev pub unit_at : List ℕ → List ℕ → List ℕ → List ℕ → ℕ → ℕ
+-- both of a division
+abbrev pub division_at : List ℕ → List ℕ → List ℕ → ℕ → Division
+division_at w a c s = record { quotient = quotient_at w a c s; remainder = at w s * at a s % at c s }
+
+abbrev pub unit_at : List Bool → List ℕ → List ℕ → List ℕ → ℕ → ℕ
 unit_at l a q r s = cond (eqb (at r s) 0) 0 (bit (ltb (before l r s) (at a s - whole l q s)))
 
 abbrev pub share_at : List ℤ → List ℕ → List ℕ → ℕ → ℤ
@@ -193,7 +198,7 @@ pub rests_small : (w a c : List ℕ) → Small (five (rest_at w a c))
 rests_small w a c =
     record { most = λ s l. rw (at_five (rest_at w a c) 0 s l) (bit_most (ltb 0 (at w s * at a s % at c s))) }
 
-pub units_small : (l a q r : List ℕ) → Small (five (unit_at l a q r))
+pub units_small : (l : List Bool) (a q r : List ℕ) → Small (five (unit_at l a q r))
 units_small l a q r =
     record { most = λ s g. rw (at_five (unit_at l a q r) 0 s g) (unit_most (eqb (at r s) 0) (ltb (before l r s) (at a s - whole l q s))) }
 

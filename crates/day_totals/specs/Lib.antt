@@ -2,5 +2,6 @@
 pub mod Parts
 pub mod Sizes
 pub mod Balance
+pub mod Rows
 pub mod Sums
 pub mod Money

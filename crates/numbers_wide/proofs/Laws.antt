@@ -2,10 +2,10 @@
 use Prim.Native.Nat.{ℕ, zero, suc, ◌+◌, ◌*◌, ◌-◌, ◌/◌, ◌%◌, ◌≤◌, ◌<◌, ◌^◌}
 use native.Mathlib.Nat.{mul-le-mul, mul-le-mul_left, mul-le-mul_right, mul-lt-mul_of_pos_right, suc-mul, div-add-mod', mod-lt, div-lt_iff_lt-mul}
 use native.Mathlib.Omega.{arith}
-use mathlib.Core.Path.{◌≡◌, sym, ◌∙◌, ap, ap₂}
+use mathlib.Core.Path.{◌≡◌, ◌∙◌, ap}
 use lib.Count.{count_leading_zeros, leading_top}
 use lib.Pow.{pow-add, pow_pos}
-use Rattle.numbers_wide.specs.Quotients.{Quotient, joined}
+use Rattle.numbers_wide.specs.Quotients.{Quotient, next_digit}
 
 -- b and c shifted by s: c has its highest bit set, b is at most c, and no bit is lost
 pub record Normal (b c s : ℕ) : Type 0 where
@@ -68,28 +68,18 @@ estimate h d c normalised fits below digit =
       taken = omega (arith, mul-le-mul {n₁ = h / top} {m₁ = c % 2 ^ 32} {n₂ = 2 ^ 32 + 1} {m₂ = 2 ^ 32 - 1} (omega arith) (omega arith));
     }
 
--- a product of two digits
-digit_most : (x y : ℕ) → x < 2 ^ 32 → y < 2 ^ 32 → x * y ≤ (2 ^ 32 - 1) * (2 ^ 32 - 1)
-digit_most x y h l = mul-le-mul {n₁ = x} {m₁ = y} {n₂ = 2 ^ 32 - 1} {m₂ = 2 ^ 32 - 1} (omega arith) (omega arith)
-
--- the digits of a and b, and their products
-pub record Digits (a b : ℕ) : Type 0 where
-  pub low_low : a % 2 ^ 32 * (b % 2 ^ 32) ≤ (2 ^ 32 - 1) * (2 ^ 32 - 1)
-  pub high_low : a / 2 ^ 32 * (b % 2 ^ 32) ≤ (2 ^ 32 - 1) * (2 ^ 32 - 1)
-  pub low_high : a % 2 ^ 32 * (b / 2 ^ 32) ≤ (2 ^ 32 - 1) * (2 ^ 32 - 1)
-  pub high_high : a / 2 ^ 32 * (b / 2 ^ 32) ≤ (2 ^ 32 - 1) * (2 ^ 32 - 1)
-  pub whole : a * b ≡ (a / 2 ^ 32 * 2 ^ 32 + a % 2 ^ 32) * (b / 2 ^ 32 * 2 ^ 32 + b % 2 ^ 32)
-
-pub digits : (a b : ℕ) → a < 2 ^ 64 → b < 2 ^ 64 → Digits a b
-digits a b h l =
-    record {
-      low_low = digit_most (a % 2 ^ 32) (b % 2 ^ 32) (omega arith) (omega arith);
-      high_low = digit_most (a / 2 ^ 32) (b % 2 ^ 32) (omega arith) (omega arith);
-      low_high = digit_most (a % 2 ^ 32) (b / 2 ^ 32) (omega arith) (omega arith);
-      high_high = digit_most (a / 2 ^ 32) (b / 2 ^ 32) (omega arith) (omega arith);
-      whole = sym (ap₂ (λ (x y : ℕ). x * y) (div-add-mod' a (2 ^ 32)) (div-add-mod' b (2 ^ 32)));
-    }
+-- a product of two words fits 128 bits
+pub product_fits : (a b : ℕ) → a < 2 ^ 64 → b < 2 ^ 64 → a * b < 2 ^ 128
+product_fits a b h l = omega (arith, mul-le-mul {n₁ = a} {m₁ = b} {n₂ = 2 ^ 64 - 1} {m₂ = 2 ^ 64 - 1} (omega arith) (omega arith))
 
 -- the high word of a product by at most c is below c
-pub high_below : (a b c h m l : ℕ) → joined h m l ≡ a * b → a < 2 ^ 64 → b ≤ c → 0 < c → h < c
-high_below a b c h m l e f k p = omega (arith, mul-le-mul_left a k, mul-lt-mul_of_pos_right f p)
+pub high_below : (a b c : ℕ) → a < 2 ^ 64 → b ≤ c → 0 < c → a * b / 2 ^ 64 < c
+high_below a b c f k p =
+    (div-lt_iff_lt-mul {k = 2 ^ 64} {x = a * b} {y = c} (omega arith)).1 (omega (arith, mul-le-mul_left a k, mul-lt-mul_of_pos_right f p))
+
+-- a number divided by c, from its high word and its two low digits
+pub by_digits : (p c m l : ℕ) {q r q' r' : ℕ} → m ≡ p / 2 ^ 32 % 2 ^ 32 → l ≡ p % 2 ^ 32 → Quotient (p / 2 ^ 64 * 2 ^ 32 + m) c q r
+    → Quotient (r * 2 ^ 32 + l) c q' r' → Quotient p c (q * 2 ^ 32 + q') r'
+by_digits p c m l e f k n =
+    let g : (p / 2 ^ 64 * 2 ^ 32 + m) * 2 ^ 32 + l ≡ p = omega arith in
+    rw g at (next_digit (2 ^ 32) l k n)

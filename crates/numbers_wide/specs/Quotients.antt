@@ -1,5 +1,5 @@
 -- Quotient and remainder: what they are known by, digit by digit, and of multiples.
-use Rattle.std.specs.Prelude.{ℕ, ◌+◌, ◌*◌, ◌/◌, ◌%◌, ◌<◌, ◌^◌, ◌≡◌}
+use Rattle.std.specs.Prelude.{ℕ, ◌+◌, ◌*◌, ◌/◌, ◌%◌, ◌<◌, ◌≡◌}
 use Rattle.std.proofs.Common.{mod-lt, div-add-mod', div-lt_iff_lt-mul, mod-eq_of_lt, mul-div_cancel, mul-lt-mul_of_pos_right, arith, sym, ◌∙◌, ap}
 use Rattle.std.proofs.Math.Nat.{mul-add-div_right, mul-add-mod_self_right, div-eq_of_lt}
 
@@ -26,10 +26,6 @@ remainder_is {n} {c} {q} {r} k =
 -- a quotient is below what times c is above n
 pub quotient_below : {n c q r : ℕ} (k : ℕ) → Quotient n c q r → n < k * c → q < k
 quotient_below {n} {c} k t h = rw (quotient_is t) ((div-lt_iff_lt-mul {k = c} {x = n} {y = k} (omega (arith, t.below))).1 h)
-
--- h * 2^64 + m * 2^32 + l, by its digits
-abbrev pub joined : ℕ → ℕ → ℕ → ℕ
-joined h m l = (h * 2 ^ 32 + m) * 2 ^ 32 + l
 
 -- one digit l more, in radix w: the remainder so far is taken along
 pub next_digit : (w l : ℕ) {h c q r q' r' : ℕ} → Quotient h c q r → Quotient (r * w + l) c q' r' → Quotient (h * w + l) c (q * w + q') r'

@@ -3,9 +3,9 @@
 #![tactic(auto)]
 
 ghost use Rattle.std.specs.Prelude.{◌≡◌, ◌+◌, ◌*◌, ◌/◌, ◌%◌, ◌<◌, ◌≤◌, ◌^◌};
-ghost use Rattle.numbers_wide.specs.Quotients.{Quotient, joined};
+ghost use Rattle.numbers_wide.specs.Quotients.{Quotient};
 
-// The radix of product and division: a digit is half a word of 64 bits.
+// The radix of the division: a digit is half a word of 64 bits.
 const RADIX: u64 = 4294967296;
 
 #[derive(Clone, Copy)]
@@ -14,20 +14,12 @@ pub struct Division {
     pub remainder: u64,
 }
 
-// high * 2^64 + middle * 2^32 + low
-#[derive(Clone, Copy)]
-struct Product {
-    high: u64,
-    middle: u32,
-    low: u32,
-}
-
 // Quotient and remainder of a * b / c, of which no bit is lost. The quotient is at most a, since b is at most c.
 pub fn multiply_divide(a: u64, b: u64, c: u64) -> Division
     requires { (0 < c) × (b ≤ c) }
     ensures { (result.quotient ≡ a * b / c) × (result.remainder ≡ a * b % c) }
 {
-    let shift = u64::leading_zeros(c) as u64;
+    let shift = c.leading_zeros();
     let scaled = divide(multiply(a, shifted(b, shift)), shifted(c, shift));
     let remainder = scaled.remainder >> shift;
     Division {
@@ -37,38 +29,35 @@ pub fn multiply_divide(a: u64, b: u64, c: u64) -> Division
 }
 
 // x * 2^s, of which no bit is lost.
-fn shifted(x: u64, s: u64) -> u64
+fn shifted(x: u64, s: u32) -> u64
     requires { (s < 64) × (x * 2 ^ s < 2 ^ 64) }
     ensures { result ≡ x * 2 ^ s }
 {
     x << s
 }
 
-// a * b, from the products of their digits.
-fn multiply(a: u64, b: u64) -> Product
-    ensures { joined result.high result.middle result.low ≡ a * b }
+// a * b
+#[tactic(auto, using(crate::proofs::Laws::product_fits))]
+fn multiply(a: u64, b: u64) -> u128
+    ensures { result ≡ a * b }
 {
-    let first = a % RADIX * (b % RADIX);
-    let second = a / RADIX * (b % RADIX) + first / RADIX;
-    let third = a % RADIX * (b / RADIX) + second % RADIX;
-    let high = a / RADIX * (b / RADIX) + second / RADIX + third / RADIX;
-    Product {
-        high,
-        middle: (third % RADIX) as u32,
-        low: (first % RADIX) as u32,
-    }
+    a as u128 * b as u128
 }
 
-// A product divided by c, which has its highest bit set and is above the product's high word.
-fn divide(p: Product, c: u64) -> Division
-    requires { (2 ^ 63 ≤ c) × (p.high < c) }
-    ensures { Quotient (joined p.high p.middle p.low) c result.quotient result.remainder }
+// A product divided by c, which has its highest bit set and is above the product's high word. Digit by digit, since `/` on u128 is slower
+// and calls a function outside of the archives, in which only memcpy and memset are called.
+fn divide(product: u128, c: u64) -> Division
+    requires { (2 ^ 63 ≤ c) × (product / 2 ^ 64 < c) }
+    ensures { Quotient product c result.quotient result.remainder }
 {
-    let upper = divide_digit(p.high, p.middle, c);
-    let lower = divide_digit(upper.remainder, p.low, c);
-    let quotient = upper.quotient * RADIX + lower.quotient;
+    let upper = divide_digit(
+        (product >> 64) as u64,
+        (product >> 32 & 0xFFFF_FFFF) as u32,
+        c,
+    );
+    let lower = divide_digit(upper.remainder, (product & 0xFFFF_FFFF) as u32, c);
     Division {
-        quotient,
+        quotient: upper.quotient * RADIX + lower.quotient,
         remainder: lower.remainder,
     }
 }
@@ -81,7 +70,7 @@ fn divide_digit(h: u64, d: u32, c: u64) -> Division
 {
     let top = c / RADIX;
     let estimate = h / top;
-    let rest = h % top * RADIX + d as u64;
+    let rest = h % top * RADIX + u64::from(d);
     let taken = estimate * (c % RADIX);
     if taken <= rest {
         return Division {
@@ -91,13 +80,14 @@ fn divide_digit(h: u64, d: u32, c: u64) -> Division
     }
     let excess = taken - rest;
     if excess <= c {
-        return Division {
+        Division {
             quotient: estimate - 1,
             remainder: c - excess,
-        };
-    }
-    Division {
-        quotient: estimate - 2,
-        remainder: c - (excess - c),
+        }
+    } else {
+        Division {
+            quotient: estimate - 2,
+            remainder: c - (excess - c),
+        }
     }
 }

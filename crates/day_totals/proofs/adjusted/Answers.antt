@@ -1,84 +1,38 @@
--- `day_totals::adjusted` meets its contract: each call's arguments are what its definition takes, read back from the bits of locals.
+-- `day_totals::adjusted` meets its contract, one schedule after another.
 use mathlib.Core.Path.{sym}
-use native.Mathlib.Omega.{arith}
-use borrow.Author.Rules.{rules}
-use Rattle.day_totals.specs.Parts.{least_last, carried_first}
-use Rattle.day_totals.specs.Sizes.{read_back, least_fits, carried_fits, adjusted_fits}
+use Rattle.std.specs.Prelude.{pos}
+use Rattle.rules.specs.Totals as T
+use Rattle.day_totals.specs.Parts.{carried_first}
+use Rattle.day_totals.specs.Rows.{row_begins, row_on, row_done}
+use Rattle.day_totals.specs.Sizes.{read_back, adjusted_fits}
+use Rattle.day_totals.proofs.Least.{rest_fits_bits, left_fits, left_is, least_back}
 use Rattle.day_totals.proofs.adjusted.Goals as goal
 
-pub least-l3-requires : goal.least-l3-requires
-least-l3-requires c =
-    let t = c.args.t in
-    let b = c.requires in record { bounded = b; s_bound = omega arith; later_value = read_back (sym (least_last t)) (least_fits t b 4 (omega arith)) }
+pub loop-s-init : goal.loop-s-init
+loop-s-init c =
+    record { row = row_begins (pos 0) (T.adjusted c.args.t) (λ k. pos 0); left = sym (carried_first c.args.t) }
 
-pub least-l2-requires : goal.least-l2-requires
-least-l2-requires c =
-    let t = c.args.t in
-    let b = c.requires in record { bounded = b; s_bound = omega arith; later_value = read_back c.least-l3.ensures (least_fits t b 3 (omega arith)) }
+pub adjusted_in-share-requires : goal.adjusted_in-share-requires
+adjusted_in-share-requires c =
+    let l = c.loop-s-test.true in
+    record { bounded = c.requires; s_bound = l; least_value = least_back c.args.t c.requires c.loop-s.s l _ c.least_sums-least.ensures; left_value = c.loop-s.invariant.left }
 
-pub least-l1-requires : goal.least-l1-requires
-least-l1-requires c =
-    let t = c.args.t in
-    let b = c.requires in record { bounded = b; s_bound = omega arith; later_value = read_back c.least-l2.ensures (least_fits t b 2 (omega arith)) }
+pub overflow_sub-left : goal.overflow_sub-left
+overflow_sub-left c = rest_fits_bits c.args.t c.requires c.loop-s.s c.loop-s-test.true _ c.adjusted_in-share.ensures
 
-pub least-l0-requires : goal.least-l0-requires
-least-l0-requires c =
-    let t = c.args.t in
-    let b = c.requires in record { bounded = b; s_bound = omega arith; later_value = read_back c.least-l1.ensures (least_fits t b 1 (omega arith)) }
+pub overflow_add-left : goal.overflow_add-left
+overflow_add-left c =
+    left_fits c.args.t c.requires c.loop-s.s c.loop-s-test.true _ _ c.loop-s.invariant.left c.adjusted_in-share.ensures
 
-pub adjusted_in-a0-requires : goal.adjusted_in-a0-requires
-adjusted_in-a0-requires c =
+pub loop-s-preserved : goal.loop-s-preserved
+loop-s-preserved c =
     let t = c.args.t in
-    let b = c.requires in record { bounded = b; s_bound = omega arith; least_value = read_back c.least-l0.ensures (least_fits t b 0 (omega arith)); left_value = sym (carried_first t) }
-
-pub carry-e1-requires : goal.carry-e1-requires
-carry-e1-requires c =
-    let t = c.args.t in
-    let b = c.requires in record { bounded = b; s_bound = omega arith; left_value = sym (carried_first t); share_value = read_back c.adjusted_in-a0.ensures (adjusted_fits t b 0 (omega arith)) }
-
-pub adjusted_in-a1-requires : goal.adjusted_in-a1-requires
-adjusted_in-a1-requires c =
-    let t = c.args.t in
-    let b = c.requires in record { bounded = b; s_bound = omega arith; least_value = read_back c.least-l1.ensures (least_fits t b 1 (omega arith)); left_value = read_back c.carry-e1.ensures (carried_fits t b 1 (omega arith)) }
-
-pub carry-e2-requires : goal.carry-e2-requires
-carry-e2-requires c =
-    let t = c.args.t in
-    let b = c.requires in record { bounded = b; s_bound = omega arith; left_value = read_back c.carry-e1.ensures (carried_fits t b 1 (omega arith)); share_value = read_back c.adjusted_in-a1.ensures (adjusted_fits t b 1 (omega arith)) }
-
-pub adjusted_in-a2-requires : goal.adjusted_in-a2-requires
-adjusted_in-a2-requires c =
-    let t = c.args.t in
-    let b = c.requires in record { bounded = b; s_bound = omega arith; least_value = read_back c.least-l2.ensures (least_fits t b 2 (omega arith)); left_value = read_back c.carry-e2.ensures (carried_fits t b 2 (omega arith)) }
-
-pub carry-e3-requires : goal.carry-e3-requires
-carry-e3-requires c =
-    let t = c.args.t in
-    let b = c.requires in record { bounded = b; s_bound = omega arith; left_value = read_back c.carry-e2.ensures (carried_fits t b 2 (omega arith)); share_value = read_back c.adjusted_in-a2.ensures (adjusted_fits t b 2 (omega arith)) }
-
-pub adjusted_in-a3-requires : goal.adjusted_in-a3-requires
-adjusted_in-a3-requires c =
-    let t = c.args.t in
-    let b = c.requires in record { bounded = b; s_bound = omega arith; least_value = read_back c.least-l3.ensures (least_fits t b 3 (omega arith)); left_value = read_back c.carry-e3.ensures (carried_fits t b 3 (omega arith)) }
-
-pub carry-e4-requires : goal.carry-e4-requires
-carry-e4-requires c =
-    let t = c.args.t in
-    let b = c.requires in record { bounded = b; s_bound = omega arith; left_value = read_back c.carry-e3.ensures (carried_fits t b 3 (omega arith)); share_value = read_back c.adjusted_in-a3.ensures (adjusted_fits t b 3 (omega arith)) }
-
-pub adjusted_in-a4-requires : goal.adjusted_in-a4-requires
-adjusted_in-a4-requires c =
-    let t = c.args.t in
-    let b = c.requires in record { bounded = b; s_bound = omega arith; least_value = read_back (sym (least_last t)) (least_fits t b 4 (omega arith)); left_value = read_back c.carry-e4.ensures (carried_fits t b 4 (omega arith)) }
+    let s = c.loop-s.s in
+    let l = c.loop-s-test.true in
+    record {
+      row = row_on (pos 0) (T.adjusted t) _ _ s _ c.loop-s.invariant.row l (read_back c.adjusted_in-share.ensures (adjusted_fits t c.requires s l));
+      left = left_is t c.requires s l _ _ c.loop-s.invariant.left c.adjusted_in-share.ensures;
+    }
 
 pub returns : goal.returns
-returns c =
-    let t = c.args.t in
-    let b = c.requires in
-    rw (
-      read_back c.adjusted_in-a0.ensures (adjusted_fits t b 0 (omega arith)),
-      read_back c.adjusted_in-a1.ensures (adjusted_fits t b 1 (omega arith)),
-      read_back c.adjusted_in-a2.ensures (adjusted_fits t b 2 (omega arith)),
-      read_back c.adjusted_in-a3.ensures (adjusted_fits t b 3 (omega arith)),
-      read_back c.adjusted_in-a4.ensures (adjusted_fits t b 4 (omega arith)),
-    )
+returns c = row_done (pos 0) _ _ _ _ c.loop-s.invariant.row c.loop-s-test.false

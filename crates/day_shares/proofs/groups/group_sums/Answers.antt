@@ -1,39 +1,43 @@
 -- `day_shares::groups::group_sums` meets its contract: what stands before each schedule, then the groups from the last one back.
-use Prim.Native.Nat.{ℕ}
-use mathlib.Core.Path.{ap}
-use mathlib.Core.List.{List}
+use Prim.Native.Nat.{◌-◌}
+use mathlib.Core.Path.{◌≡◌, sym, ◌∙◌, ap}
 use native.Mathlib.Omega.{arith}
-use borrow.Author.Rules.{rules}
-use Rattle.rules.specs.Fold.{at}
-use Rattle.numbers.specs.Fives.{five_is}
-use Rattle.day_shares.specs.Groups.{whole, whole_last}
-use Rattle.day_shares.proofs.Laws.{sum_fits}
+use Rattle.day_totals.specs.Rows.{row_back_begins, row_back, row_back_done}
+use Rattle.day_shares.specs.Groups.{before, whole, whole_last}
+use Rattle.day_shares.proofs.Laws.{sum_fits, whole_goes, whole_ends}
 use Rattle.day_shares.proofs.groups.group_sums.Goals as goal
+use Rattle.day_shares.proofs.groups.group_sums.Goals.{then-l-s, else-l-s}
 
-pub overflow_add-w4 : goal.overflow_add-w4
-overflow_add-w4 c =
-    let a = c.args in
-    let e = ap (λ (y : List ℕ). at y 4) c.sums_before-b.ensures in
-    omega (arith, sum_fits a.l a.x 4 _ e c.requires (omega arith))
+pub overflow_add-sums : goal.overflow_add-sums
+overflow_add-sums c =
+    let e = c.sums_before-sums.ensures in
+    rw e (omega (arith, sum_fits c.args.l c.args.x 4 _ c.requires (omega arith) mathlib.Core.Path.refl))
 
-pub sum_from-w3-requires : goal.sum_from-w3-requires
-sum_from-w3-requires c =
-    let a = c.args in
-    (c.requires, omega arith, rw c.sums_before-b.ensures, rw (c.sums_before-b.ensures, whole_last a.l a.x))
+pub loop-s-init : goal.loop-s-init
+loop-s-init c =
+    let l = c.args.l in
+    let x = c.args.x in
+    rw c.sums_before-sums.ensures
+    (row_back 0 (before l x) (whole l x) _ 5 _ (row_back_begins 0 (before l x) (whole l x)) (omega arith) (omega arith) (sym (whole_last l x)))
 
-pub sum_from-w2-requires : goal.sum_from-w2-requires
-sum_from-w2-requires c = (c.requires, omega arith, rw c.sums_before-b.ensures, c.sum_from-w3.ensures)
+pub overflow_add-sums-else-l-s : goal.overflow_add-sums-else-l-s
+overflow_add-sums-else-l-s c =
+    let s = c.loop-s.s in
+    omega (arith, sum_fits c.args.l c.args.x (s - 1) _ c.requires (omega arith) (c.loop-s.invariant.below (s - 1) (omega arith)))
 
-pub sum_from-w1-requires : goal.sum_from-w1-requires
-sum_from-w1-requires c = (c.requires, omega arith, rw c.sums_before-b.ensures, c.sum_from-w2.ensures)
-
-pub sum_from-w0-requires : goal.sum_from-w0-requires
-sum_from-w0-requires c =
-    (c.requires, omega arith, rw c.sums_before-b.ensures, c.sum_from-w1.ensures)
+pub loop-s-preserved : goal.loop-s-preserved
+loop-s-preserved c =
+    let l = c.args.l in
+    let x = c.args.x in
+    let s = c.loop-s.s in
+    let r = c.loop-s.invariant in
+    let e : c.if-l-s.sums ≡ whole l x (s - 1) =
+    elim c.if-l-s.branch [
+      | then-l-s w ↦ w.sums-is ∙ whole_goes l x _ s r (omega arith) (omega arith) w.if-l-s.true
+      | else-l-s w ↦ w.sums-is ∙ whole_ends l x _ s r (omega arith) (omega arith) w.if-l-s.false
+    ]
+    in
+    row_back 0 _ (whole l x) _ s _ r (omega arith) (omega arith) e
 
 pub returns : goal.returns
-returns c =
-    let a = c.args in
-    five_is (whole a.l a.x) c.sum_from-w0.ensures c.sum_from-w1.ensures
-    c.sum_from-w2.ensures c.sum_from-w3.ensures
-    (rw (c.sums_before-b.ensures, whole_last a.l a.x))
+returns c = row_back_done 0 _ _ _ _ c.loop-s.invariant c.loop-s-test.false

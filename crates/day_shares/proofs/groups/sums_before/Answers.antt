@@ -1,25 +1,36 @@
 -- `day_shares::groups::sums_before` meets its contract, one schedule after another.
-use mathlib.Core.Path.{sym}
+use Prim.Native.Nat.{◌-◌}
+use mathlib.Core.Path.{◌≡◌, sym, ◌∙◌}
 use native.Mathlib.Omega.{arith}
-use Rattle.numbers.specs.Fives.{five_is}
+use Rattle.day_totals.specs.Rows.{row_begins, row_on, row_kept, row_done}
 use Rattle.day_shares.specs.Groups.{before, before_first}
+use Rattle.day_shares.proofs.Laws.{sum_fits, before_goes, before_begins}
 use Rattle.day_shares.proofs.groups.sums_before.Goals as goal
+use Rattle.day_shares.proofs.groups.sums_before.Goals.{then-l-s, else-l-s}
 
-pub next_before-b1-requires : goal.next_before-b1-requires
-next_before-b1-requires c = (c.requires, omega arith, sym (before_first c.args.l c.args.x))
+pub loop-s-init : goal.loop-s-init
+loop-s-init c =
+    let f = before c.args.l c.args.x in
+    row_kept 0 f _ _ 0 (row_begins 0 f (λ k. 0)) (omega arith) (sym (before_first c.args.l c.args.x))
 
-pub next_before-b2-requires : goal.next_before-b2-requires
-next_before-b2-requires c = (c.requires, omega arith, c.next_before-b1.ensures)
+pub overflow_add-sums : goal.overflow_add-sums
+overflow_add-sums c =
+    let s = c.loop-s.s in
+    omega (arith, sum_fits c.args.l c.args.x (s - 1) _ c.requires (omega arith) (c.loop-s.invariant.below (s - 1) (omega arith)))
 
-pub next_before-b3-requires : goal.next_before-b3-requires
-next_before-b3-requires c = (c.requires, omega arith, c.next_before-b2.ensures)
-
-pub next_before-b4-requires : goal.next_before-b4-requires
-next_before-b4-requires c = (c.requires, omega arith, c.next_before-b3.ensures)
-
-pub returns : goal.returns
-returns c =
+pub loop-s-preserved : goal.loop-s-preserved
+loop-s-preserved c =
     let l = c.args.l in
     let x = c.args.x in
-    five_is (before l x) (sym (before_first l x)) c.next_before-b1.ensures
-    c.next_before-b2.ensures c.next_before-b3.ensures c.next_before-b4.ensures
+    let s = c.loop-s.s in
+    let r = c.loop-s.invariant in
+    let e : c.if-l-s.sums ≡ before l x s =
+    elim c.if-l-s.branch [
+      | then-l-s w ↦ w.sums-is ∙ before_goes l x _ s r (omega arith) (omega arith) w.if-l-s.true
+      | else-l-s w ↦ w.sums-is ∙ before_begins l x _ s r (omega arith) (omega arith) w.if-l-s.false
+    ]
+    in
+    row_on 0 (before l x) _ _ s _ r (omega arith) e
+
+pub returns : goal.returns
+returns c = row_done 0 _ _ _ _ c.loop-s.invariant c.loop-s-test.false

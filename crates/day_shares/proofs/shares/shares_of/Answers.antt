@@ -5,17 +5,6 @@ use Rattle.day_shares.specs.Parts.{sizes_small, adjusted_bounded}
 use Rattle.day_shares.proofs.Laws.{sums, divisible, sizes_fit, rests_fit, units_fit, shares_are}
 use Rattle.day_shares.proofs.shares.shares_of.Goals as goal
 
-pub signs-requires : goal.signs-requires
-signs-requires c = c.requires.bounded
-
-pub sizes-w-requires : goal.sizes-w-requires
-sizes-w-requires c = c.requires.bounded
-
-pub sizes-requires : goal.sizes-requires
-sizes-requires c =
-    let p = c.requires in
-    rw p.adjust (adjusted_bounded c.args.t p.bounded p.first)
-
 pub group_sums-amounts-requires : goal.group_sums-amounts-requires
 group_sums-amounts-requires c =
     let p = c.requires in
@@ -28,40 +17,32 @@ group_sums-requires c =
     let t = c.args.t in
     rw c.sizes-w.ensures (sizes_small t p.bounded)
 
-pub quotients-d-requires : goal.quotients-d-requires
-quotients-d-requires c =
-    let k = sums _ _ _ _ _ _ _ _ c.requires.adjust c.signs.ensures c.links-l.ensures
-    c.sizes-w.ensures c.sizes.ensures c.group_sums-amounts.ensures
-    c.group_sums.ensures in
+pub divisions-d-requires : goal.divisions-d-requires
+divisions-d-requires c =
+    let k = sums _ _ _ _ _ _ _ _ c.requires.adjust c.signs.ensures c.links-l.ensures c.sizes-w.ensures c.sizes.ensures
+    c.group_sums-amounts.ensures c.group_sums.ensures in
     divisible k c.requires.bounded c.requires.first
 
 pub units-u-requires : goal.units-u-requires
 units-u-requires c =
-    let k = sums _ _ _ _ _ _ _ _ c.requires.adjust c.signs.ensures
-    c.links-l.ensures c.sizes-w.ensures
-    c.sizes.ensures c.group_sums-amounts.ensures
-    c.group_sums.ensures in (
-      sizes_fit k c.requires.bounded c.requires.first _ c.quotients-d.ensures.0,
-      rests_fit k _ c.quotients-d.ensures.1,
-    )
+    let k = sums _ _ _ _ _ _ _ _ c.requires.adjust c.signs.ensures c.links-l.ensures c.sizes-w.ensures c.sizes.ensures
+    c.group_sums-amounts.ensures c.group_sums.ensures in
+    let q-is = rw c.divisions-d.ensures at c.quotients-q.ensures in
+    let r-is = rw c.divisions-d.ensures at c.rests.ensures in
+    (sizes_fit k c.requires.bounded c.requires.first _ q-is, rests_fit k _ r-is)
 
 pub signed_shares-requires : goal.signed_shares-requires
 signed_shares-requires c =
-    let k = sums _ _ _ _ _ _ _ _ c.requires.adjust c.signs.ensures
-    c.links-l.ensures c.sizes-w.ensures
-    c.sizes.ensures c.group_sums-amounts.ensures
-    c.group_sums.ensures in
-    let p = c.requires in (
-      p.bounded,
-      sizes_fit k p.bounded p.first _ c.quotients-d.ensures.0,
-      units_fit k _ _ _ c.quotients-d.ensures.0 c.quotients-d.ensures.1 c.units-u.ensures,
-    )
+    let k = sums _ _ _ _ _ _ _ _ c.requires.adjust c.signs.ensures c.links-l.ensures c.sizes-w.ensures c.sizes.ensures
+    c.group_sums-amounts.ensures c.group_sums.ensures in
+    let q-is = rw c.divisions-d.ensures at c.quotients-q.ensures in
+    let r-is = rw c.divisions-d.ensures at c.rests.ensures in
+    (sizes_fit k c.requires.bounded c.requires.first _ q-is, units_fit k _ _ _ q-is r-is c.units-u.ensures)
 
 pub returns : goal.returns
 returns c =
-    let k = sums _ _ _ _ _ _ _ _ c.requires.adjust c.signs.ensures
-    c.links-l.ensures c.sizes-w.ensures
-    c.sizes.ensures c.group_sums-amounts.ensures
-    c.group_sums.ensures in
-    shares_are k c.requires.first _ _ _ _ c.quotients-d.ensures.0
-    c.quotients-d.ensures.1 c.units-u.ensures c.signed_shares.ensures
+    let k = sums _ _ _ _ _ _ _ _ c.requires.adjust c.signs.ensures c.links-l.ensures c.sizes-w.ensures c.sizes.ensures
+    c.group_sums-amounts.ensures c.group_sums.ensures in
+    let q-is = rw c.divisions-d.ensures at c.quotients-q.ensures in
+    let r-is = rw c.divisions-d.ensures at c.rests.ensures in
+    shares_are k c.requires.first _ _ _ _ q-is r-is c.units-u.ensures c.signed_shares.ensures
