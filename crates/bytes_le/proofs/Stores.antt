@@ -1,31 +1,37 @@
--- Bytes stored one after another.
-use Prim.Native.Nat.{ℕ, ◌+◌, ◌/◌, ◌%◌}
-use native.Mathlib.Numerals.{towards_suc}
+-- A number's bytes copied over a part of others.
+use Prim.Native.Nat.{ℕ, ◌+◌, ◌-◌, ◌≤◌}
 use native.Mathlib.Omega.{arith}
-use mathlib.Core.Path.{◌≡◌, refl, sym, ◌∙◌, ap, ap₂}
-use mathlib.Core.List.{List, ◌∷◌, ◌++◌}
+use mathlib.Core.Path.{◌≡◌, ◌∙◌, ap}
+use mathlib.Core.List.{List}
+use lib.ListN.{length}
 use lib.Seq.{sets}
+use borrow.Author.Rules.{rules}
+use borrow.Rule.Slice.PartMut.{put_mid}
+use Rattle.std.specs.Int.{w32, w64, to_le_bytes}
+use Rattle.std.proofs.lemmas.List.Edits.{sets-eq}
+use Rattle.std.proofs.lemmas.Slice.{overwrites}
 use Rattle.rules.specs.Book.{le}
 
-same_cons : {a b : ℕ} {l m : List ℕ} → a ≡ b → l ≡ m → a ∷ l ≡ b ∷ m
-same_cons p q = ap₂ {C = List ℕ} (λ x y. x ∷ y) p q
+stored : (b q : List ℕ) (at n : ℕ) → length q ≡ n → at + n ≤ length b → put_mid at (at + n - at) b q ≡ sets b at q
+stored b q at n e h = search (rules, sets-eq, overwrites)
 
--- the eight bytes of a number are the four of its lower half and the four of its upper half
-pub halves : (v : ℕ) → le 8 v ≡ le 4 (v % 4294967296) ++ le 4 (v / 4294967296)
+word_is : (v : ℕ) → to_le_bytes w32 v ≡ le 4 v
 unfolding le
-halves v =
-    same_cons (omega arith) (same_cons (omega arith) (same_cons (omega arith) (same_cons (omega arith)
-    (same_cons (omega arith) (same_cons (omega arith) (same_cons (omega arith) (same_cons (omega arith) refl)))))))
+word_is v = grind arith
 
-after_word : (b l : List ℕ) (at x : ℕ) → sets (sets b at (le 4 x)) (at + 4) l ≡ sets b at (le 4 x ++ l)
+long_is : (v : ℕ) → to_le_bytes w64 v ≡ le 8 v
 unfolding le
-after_word b l at x = simp towards_suc
+long_is v = grind arith
 
--- the lower half stored, then the upper half
-pub both_halves : (b b₁ b₂ : List ℕ) (at v : ℕ)
-    → b₁ ≡ sets b at (le 4 (v % 4294967296)) → b₂ ≡ sets b₁ (at + 4) (le 4 (v / 4294967296))
-    → b₂ ≡ sets b at (le 8 v)
-both_halves b b₁ b₂ at v p q =
-    q ∙ ap (λ (l : List ℕ). sets l (at + 4) (le 4 (v / 4294967296))) p
-    ∙ after_word b (le 4 (v / 4294967296)) at (v % 4294967296)
-    ∙ sym (ap (sets b at) (halves v))
+module _ (b q : List ℕ) (at : ℕ) where
+  pub put_word_is : (v : ℕ) → at + 4 ≤ length b → q ≡ to_le_bytes w32 v → put_mid at (at + 4 - at) b q ≡ sets b at (le 4 v)
+  unfolding le
+  put_word_is v h e =
+      let k : q ≡ le 4 v = e ∙ word_is v in
+      stored b q at 4 (ap length k) h ∙ ap (sets b at) k
+
+  pub put_long_is : (v : ℕ) → at + 8 ≤ length b → q ≡ to_le_bytes w64 v → put_mid at (at + 8 - at) b q ≡ sets b at (le 8 v)
+  unfolding le
+  put_long_is v h e =
+      let k : q ≡ le 8 v = e ∙ long_is v in
+      stored b q at 8 (ap length k) h ∙ ap (sets b at) k

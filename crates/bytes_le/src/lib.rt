@@ -2,32 +2,18 @@
 
 #![tactic(auto)]
 
-ghost use Rattle.std.specs.Prelude.{◌≡◌, ◌+◌, ◌*◌, ◌≤◌, length};
+ghost use Rattle.std.specs.Prelude.{◌≡◌, ◌+◌, ◌≤◌, length};
 ghost use Rattle.std.proofs.lemmas.List.Edits.{sets};
 ghost use Rattle.rules.specs.Layout.{word};
 ghost use Rattle.rules.specs.Book.{le, bits64, signed_bytes};
 ghost use Rattle.bytes_le.specs.Wide.{long_word, signed_of};
-
-// four bytes, the lowest first
-fn join_bytes(a: u8, b: u8, c: u8, d: u8) -> u32
-    ensures { result ≡ a + b * 256 + c * 65536 + d * 16777216 }
-{
-    a as u32 + b as u32 * 256 + c as u32 * 65536 + d as u32 * 16777216
-}
 
 // The word whose first byte is byte `at`.
 pub fn word_at(b: &[u8], at: usize) -> u32
     requires { at + 4 ≤ length b.now }
     ensures { result ≡ word b.now at }
 {
-    join_bytes(b[at], b[at + 1], b[at + 2], b[at + 3])
-}
-
-// two words, the lower first
-fn join_words(low: u32, high: u32) -> u64
-    ensures { result ≡ low + high * 4294967296 }
-{
-    low as u64 + high as u64 * 4294967296
+    u32::from_le_bytes(*b[at..at + 4].as_array().unwrap())
 }
 
 // The 64 bits whose first byte is byte `at`.
@@ -35,17 +21,7 @@ pub fn long_at(b: &[u8], at: usize) -> u64
     requires { at + 8 ≤ length b.now }
     ensures { result ≡ long_word b.now at }
 {
-    join_words(word_at(b, at), word_at(b, at + 4))
-}
-
-// The signed number that 64 bits stand for.
-pub fn signed(v: u64) -> i64
-    ensures { result ≡ signed_of v }
-{
-    if v < 9223372036854775808 {
-        return v as i64;
-    }
-    -1 - ((18446744073709551615 - v) as i64)
+    u64::from_le_bytes(*b[at..at + 8].as_array().unwrap())
 }
 
 // The signed 64-bit number whose first byte is byte `at`.
@@ -53,37 +29,32 @@ pub fn signed_at(b: &[u8], at: usize) -> i64
     requires { at + 8 ≤ length b.now }
     ensures { result ≡ signed_of (long_word b.now at) }
 {
-    signed(long_at(b, at))
+    long_at(b, at).cast_signed()
 }
 
 // The 64 bits of a signed number.
 pub fn bits(v: i64) -> u64
     ensures { result ≡ bits64 v }
 {
-    if v >= 0 {
-        return v as u64;
-    }
-    18446744073709551615 - ((-1 - v) as u64)
+    v.cast_unsigned()
 }
 
 // A word put from byte `at` on.
+#[tactic(auto, using(crate::proofs::Stores::put_word_is))]
 pub fn put_word(b: &mut [u8], at: usize, v: u32)
     requires { at + 4 ≤ length b.old }
     ensures { b.new ≡ sets b.old at (le 4 v) }
 {
-    b[at] = (v % 256) as u8;
-    b[at + 1] = (v / 256 % 256) as u8;
-    b[at + 2] = (v / 256 / 256 % 256) as u8;
-    b[at + 3] = (v / 256 / 256 / 256 % 256) as u8;
+    b[at..at + 4].copy_from_slice(&v.to_le_bytes());
 }
 
 // A 64-bit number put from byte `at` on.
+#[tactic(auto, using(crate::proofs::Stores::put_long_is))]
 pub fn put_long(b: &mut [u8], at: usize, v: u64)
     requires { at + 8 ≤ length b.old }
     ensures { b.new ≡ sets b.old at (le 8 v) }
 {
-    put_word(b, at, (v % 4294967296) as u32);
-    put_word(b, at + 4, (v / 4294967296) as u32);
+    b[at..at + 8].copy_from_slice(&v.to_le_bytes());
 }
 
 // A signed 64-bit number put from byte `at` on.
@@ -91,5 +62,5 @@ pub fn put_signed(b: &mut [u8], at: usize, v: i64)
     requires { at + 8 ≤ length b.old }
     ensures { b.new ≡ sets b.old at (signed_bytes v) }
 {
-    put_long(b, at, bits(v));
+    put_long(b, at, v.cast_unsigned());
 }

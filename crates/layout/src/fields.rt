@@ -1,56 +1,52 @@
 // A line's fields before its bids, and where its quantities stand.
-ghost use Rattle.std.specs.Prelude.{◌≡◌, ◌+◌, ◌*◌, ◌<◌, length};
+ghost use Rattle.std.specs.Prelude.{◌≡◌, ◌+◌, ◌*◌, ◌<◌};
 ghost use Rattle.rules.specs.Layout as layout;
 
+use crate::header::Line;
 use bytes_le::word_at;
 
-pub fn participant(line: &[u8]) -> u32
-    requires { length line.now ≡ 660 }
+pub fn participant(line: &Line) -> u32
     ensures { result ≡ layout.participant line.now }
 {
     word_at(line, 0)
 }
 
-pub fn point(line: &[u8]) -> u32
-    requires { length line.now ≡ 660 }
+pub fn point(line: &Line) -> u32
     ensures { result ≡ layout.point line.now }
 {
     word_at(line, 4)
 }
 
 // 0 injection, 1 withdrawal
-pub fn side(line: &[u8]) -> u32
-    requires { length line.now ≡ 660 }
+pub fn side(line: &Line) -> u32
     ensures { result ≡ layout.side line.now }
 {
     word_at(line, 8)
 }
 
-pub fn accreditation(line: &[u8]) -> u32
-    requires { length line.now ≡ 660 }
+pub fn accreditation(line: &Line) -> u32
     ensures { result ≡ layout.accreditation line.now }
 {
     word_at(line, 12)
 }
 
-pub fn hedge(line: &[u8]) -> u32
-    requires { length line.now ≡ 660 }
+pub fn hedge(line: &Line) -> u32
     ensures { result ≡ layout.hedge line.now }
 {
     word_at(line, 16)
 }
 
 // Entry j of the fifteen pricing quantities, which stand row by row.
-pub fn pricing_word(line: &[u8], j: usize) -> u32
-    requires { (length line.now ≡ 660) × (j < 15) }
+pub fn pricing_word(line: &Line, j: usize) -> u32
+    requires { j < 15 }
     ensures { result ≡ layout.field line.now (120 + j) }
 {
     word_at(line, 4 * (120 + j))
 }
 
 // The operating quantity of schedule s in interval i.
-pub fn operating_entry(line: &[u8], s: usize, i: usize) -> u32
-    requires { (length line.now ≡ 660) × (s < 5) × (i < 5) }
+pub fn operating_entry(line: &Line, s: usize, i: usize) -> u32
+    requires { (s < 5) × (i < 5) }
     ensures { result ≡ layout.operating_entry line.now s i }
 {
     word_at(line, 4 * (135 + (5 * s + i)))
@@ -64,8 +60,8 @@ pub fn actual_place(i: usize) -> usize
     4 * (160 + i)
 }
 
-pub fn actual_entry(line: &[u8], i: usize) -> u32
-    requires { (length line.now ≡ 660) × (i < 5) }
+pub fn actual_entry(line: &Line, i: usize) -> u32
+    requires { i < 5 }
     ensures { result ≡ layout.actual_entry line.now i }
 {
     word_at(line, actual_place(i))

@@ -5,8 +5,10 @@ ghost use Rattle.rules.specs.Layout as layout;
 
 use crate::header::market_at;
 use bytes_le::word_at;
+use std::array::from_fn;
 
 // Where word j of the market table stands: five prices, five cap marks, APC, the clawback switch.
+#[tactic(auto, using(laws::specs::Layouts::market_most))]
 pub fn market_place(day: &[u8], j: usize) -> usize
     requires { (64 ≤ length day.now) × (j < 12) }
     ensures { result ≡ layout.market_at day.now + 4 * j }
@@ -15,6 +17,7 @@ pub fn market_place(day: &[u8], j: usize) -> usize
 }
 
 // That word.
+#[tactic(auto, using(laws::specs::Layouts::market_most))]
 fn market_word(day: &[u8], j: usize) -> u32
     requires { (72 ≤ length day.now) × (j < 12) }
     ensures { result ≡ layout.market_word day.now j }
@@ -55,13 +58,7 @@ pub fn market_prices(day: &[u8]) -> [u32; 5]
     requires { 72 ≤ length day.now }
     ensures { result ≡ five (layout.market_price day.now) }
 {
-    [
-        market_price(day, 0),
-        market_price(day, 1),
-        market_price(day, 2),
-        market_price(day, 3),
-        market_price(day, 4),
-    ]
+    from_fn(|s| market_price(day, s))
 }
 
 // The five cap marks.
@@ -69,11 +66,5 @@ pub fn cap_marks(day: &[u8]) -> [u32; 5]
     requires { 72 ≤ length day.now }
     ensures { result ≡ five (layout.cap_mark day.now) }
 {
-    [
-        cap_mark(day, 0),
-        cap_mark(day, 1),
-        cap_mark(day, 2),
-        cap_mark(day, 3),
-        cap_mark(day, 4),
-    ]
+    from_fn(|s| cap_mark(day, s))
 }
