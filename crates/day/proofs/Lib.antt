@@ -1,2 +1,1 @@
--- Laws that several functions' proofs cite.
-pub mod Laws
+-- Laws that several functions cite.

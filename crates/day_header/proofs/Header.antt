@@ -18,17 +18,17 @@ use Rattle.layout.proofs.header.Lent.{lent_line, line_length}
 use Rattle.day_header.specs.Records.{misplaced}
 
 -- a chain of refusals as one test after another
-refuse_or : (n : ℕ) (t : Bool) (b : ℕ) → refuse n t or_else b ≡ cond t (n or_else b) b
+pub refuse_or : (n : ℕ) (t : Bool) (b : ℕ) → refuse n t or_else b ≡ cond t (n or_else b) b
 unfolding refuse ◌or_else◌
 refuse_or n true b = refl
 refuse_or n false b = refl
 
-refuse_is : (n : ℕ) (t : Bool) → refuse n t ≡ cond t n 0
+pub refuse_is : (n : ℕ) (t : Bool) → refuse n t ≡ cond t n 0
 unfolding refuse
 refuse_is n true = refl
 refuse_is n false = refl
 
-or_else_is : (a b : ℕ) → a or_else b ≡ cond (eqb a 0) b a
+pub or_else_is : (a b : ℕ) → a or_else b ≡ cond (eqb a 0) b a
 unfolding ◌or_else◌
 or_else_is zero b = refl
 or_else_is (suc a) b = grind (arith, nat_tests)
