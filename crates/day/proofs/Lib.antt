@@ -1,1 +1,2 @@
 -- Laws that several functions cite.
+pub mod Laws

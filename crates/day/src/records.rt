@@ -1,34 +1,11 @@
 // The ad hoc records' refusals: 20 and 21 (document 02, F-5). The records stand from byte `from` on.
 ghost use Rattle.std.specs.Prelude.{◌≡◌, ◌+◌, ◌*◌, ◌≤◌, ◌<◌, length};
 ghost use Rattle.rules.specs.Fold.{first, ◌or_else◌};
-ghost use Rattle.rules.specs.Layout as layout;
-ghost use Rattle.rules.specs.Refusals.{record_fault, twin_fault};
+ghost use Rattle.rules.specs.Refusals.{record_fault, same_record, twin_fault};
 ghost use Rattle.refusals.specs.Numbers.{fault_of};
 
 use layout::records::{record_line, record_order, record_schedule};
 use refusals::Refusal;
-
-// What no two records may have in common.
-#[derive(Clone, Copy, PartialEq, Eq)]
-struct RecordKey {
-    line: u32,
-    schedule: u32,
-    order: u32,
-}
-
-// The key of record i.
-fn record_key(day: &[u8], from: usize, i: usize) -> RecordKey
-    requires { from + 32 * (i + 1) ≤ length day.now }
-    ensures line { result.line ≡ layout.record_line day.now from i }
-    ensures schedule { result.schedule ≡ layout.record_schedule day.now from i }
-    ensures order { result.order ≡ layout.record_order day.now from i }
-{
-    RecordKey {
-        line: record_line(day, from, i),
-        schedule: record_schedule(day, from, i),
-        order: record_order(day, from, i),
-    }
-}
 
 // Refusal 20 of record i, in a file of n lines.
 #[tactic(auto, using(crate::proofs::records::Records::record_tests))]
@@ -43,15 +20,25 @@ fn check_record(day: &[u8], from: usize, n: usize, i: usize) -> Result<(), Refus
     Ok(())
 }
 
-// Refusal 21 of record i and those before it. The loop maintains that none before h has the key of record i.
+// Whether records h and i agree in line, schedule and order number. Word by word: a key of three words with a derived `==` was slower.
+#[tactic(auto, unfolding(rules::specs::Refusals::same_record))]
+fn same_record(day: &[u8], from: usize, h: usize, i: usize) -> bool
+    requires { (from + 32 * (i + 1) ≤ length day.now) × (h < i) }
+    ensures { result ≡ same_record day.now from h i }
+{
+    record_line(day, from, h) == record_line(day, from, i)
+        && record_schedule(day, from, h) == record_schedule(day, from, i)
+        && record_order(day, from, h) == record_order(day, from, i)
+}
+
+// Refusal 21 of record i and those before it. The loop maintains that none before h agrees with record i.
 #[tactic(auto, using(crate::proofs::records::Records::twin_laws))]
 fn check_twin(day: &[u8], from: usize, i: usize) -> Result<(), Refusal>
     requires { from + 32 * (i + 1) ≤ length day.now }
     ensures { fault_of result ≡ twin_fault day.now from i }
 {
-    let key = record_key(day, from, i);
     for h in 0..i {
-        if record_key(day, from, h) == key {
+        if same_record(day, from, h, i) {
             return Err(Refusal::EqualAdHoc);
         }
     }
