@@ -25,13 +25,6 @@ fn market_word(day: &[u8], j: usize) -> u32
     word_at(day, market_place(day, j))
 }
 
-fn market_price(day: &[u8], s: usize) -> u32
-    requires { (72 ≤ length day.now) × (s < 5) }
-    ensures { result ≡ layout.market_price day.now s }
-{
-    market_word(day, s)
-}
-
 pub fn cap_mark(day: &[u8], s: usize) -> u32
     requires { (72 ≤ length day.now) × (s < 5) }
     ensures { result ≡ layout.cap_mark day.now s }
@@ -58,7 +51,7 @@ pub fn market_prices(day: &[u8]) -> [u32; 5]
     requires { 72 ≤ length day.now }
     ensures { result ≡ five (layout.market_price day.now) }
 {
-    from_fn(|s| market_price(day, s))
+    from_fn(|s| market_word(day, s))
 }
 
 // The five cap marks.
