@@ -1,2 +1,2 @@
--- Laws that several functions' proofs cite.
+-- Laws that several functions cite.
 pub mod Laws

@@ -3,81 +3,60 @@ ghost use Rattle.std.specs.Prelude.{◌≡◌, ◌+◌, ◌≤◌, ◌<◌, leng
 ghost use Rattle.rules.specs.Fold.{first};
 ghost use Rattle.rules.specs.Layout.{line_place};
 ghost use Rattle.rules.specs.Refusals.{same_key, key_fault};
+ghost use Rattle.refusals.specs.Numbers.{fault_of};
 ghost use Rattle.day.specs.Keys.{slot_of};
 
 use layout::fields::{participant, point, side};
-use layout::header::line_of;
-use numbers::wide;
+use layout::header::{Line, line_of};
+use refusals::Refusal;
 
-// Whether two lines have equal participant, point and side.
-fn same_key(v: &[u8], w: &[u8]) -> bool
-    requires { (length v.now ≡ 660) × (length w.now ≡ 660) }
+// Whether two lines have equal participant, point and side. Word by word: a key of three words with a derived `==` was slower.
+#[tactic(auto, unfolding(rules::specs::Refusals::same_key))]
+fn same_key(v: &Line, w: &Line) -> bool
     ensures { result ≡ same_key v.now w.now }
 {
-    if participant(v) != participant(w) {
-        return false;
-    }
-    if point(v) != point(w) {
-        return false;
-    }
-    if side(v) != side(w) {
-        return false;
-    }
-    true
+    participant(v) == participant(w) && point(v) == point(w) && side(v) == side(w)
 }
 
 // Refusal 14 of line k and those before it. The loop maintains that no line before i has line k's key.
-fn key_number(day: &[u8], k: usize) -> u32
+#[tactic(auto, using(crate::proofs::equal_keys::Keys::key_laws))]
+fn check_key(day: &[u8], k: usize) -> Result<(), Refusal>
     requires { (64 ≤ length day.now) × (k < 64) × (line_place day.now (k + 1) ≤ length day.now) }
-    ensures { result ≡ key_fault day.now k }
+    ensures { fault_of result ≡ key_fault day.now k }
 {
-    let w = line_of(day, k);
-    let mut i = 0;
-    while i < k {
-        let v = line_of(day, i);
-        if same_key(v, w) {
-            return 14;
+    let line = line_of(day, k);
+    for i in 0..k {
+        if same_key(line_of(day, i), line) {
+            return Err(Refusal::EqualKeys);
         }
-        i += 1;
     }
-    0
+    Ok(())
 }
 
 // One of 128 slots, by a line's participant, point and side: lines with the same key have the same slot.
-fn slot_of(line: &[u8]) -> usize
-    requires { length line.now ≡ 660 }
+#[tactic(auto, unfolding(crate::specs::Keys::slot_of))]
+fn slot_of(line: &Line) -> usize
     ensures { result ≡ slot_of line.now }
 {
-    let key = wide(participant(line)) * 4 + wide(point(line)) + wide(side(line)) * 64;
+    let key = u64::from(participant(line)) * 4
+        + u64::from(point(line))
+        + u64::from(side(line)) * 64;
     (key % 128) as usize
 }
 
-// Refusal 14 of line k and those before it. Where its slot is still unused, none of them has its key.
-fn slot_number(day: &[u8], k: usize, unused: u32) -> u32
-    requires { (64 ≤ length day.now) × (k < 64) × (line_place day.now (k + 1) ≤ length day.now) × (unused ≡ 1 → key_fault day.now k ≡ 0) }
-    ensures { result ≡ key_fault day.now k }
-{
-    if unused == 1 {
-        return 0;
-    }
-    key_number(day, k)
-}
-
 // Refusal 14. The loop maintains that no two lines before k have the same key, and that their slots are marked as used.
-pub fn keys_number(day: &[u8], n: usize) -> u32
+#[tactic(auto, using(crate::proofs::equal_keys::Keys::slot_laws))]
+pub fn check_keys(day: &[u8], n: usize) -> Result<(), Refusal>
     requires { (64 ≤ length day.now) × (n ≤ 64) × (line_place day.now n ≤ length day.now) }
-    ensures { result ≡ first (key_fault day.now) n }
+    ensures { fault_of result ≡ first (key_fault day.now) n }
 {
-    let mut unused = [1u32; 128];
-    let mut k = 0;
-    while k < n {
+    let mut used = [false; 128];
+    for k in 0..n {
         let slot = slot_of(line_of(day, k));
-        let fault = slot_number(day, k, unused[slot]);
-        if fault != 0 {
-            return fault;
+        if used[slot] {
+            check_key(day, k)?;
         }
-        unused[slot] = 0;
-        k += 1;
+        used[slot] = true;
     }
-    0
+    Ok(())
 }

@@ -1,4 +1,4 @@
-// The day file: its number, from the header, the market table, the records, the lines and their keys.
+// The day file: its refusals, of the header, the market table, the records, the lines and their keys.
 
 #![tactic(auto)]
 
@@ -8,36 +8,27 @@ mod records;
 
 ghost use Rattle.std.specs.Prelude.{◌≡◌};
 ghost use Rattle.rules.specs.Refusals.{day_fault};
+ghost use Rattle.refusals.specs.Numbers.{fault_of};
 
-use crate::equal_keys::keys_number;
-use crate::market::market_number;
-use crate::records::records_number;
-use day_header::header_number;
+use crate::equal_keys::check_keys;
+use crate::market::check_market;
+use crate::records::check_records;
+use day_header::check_header;
 use layout::header::{line_count, lines_at, record_count, records_at};
-use numbers::index;
+use line::check_lines;
+use refusals::Refusal;
 
-// The number of a day file, for any bytes: refusals 1 to 14 and 19 to 21 in the documents' order, 0 where it is accepted.
-pub fn day_number(day: &[u8]) -> u32
-    ensures { result ≡ day_fault day.now }
+// The refusal of a day file, for any bytes: refusals 1 to 14 and 19 to 21 in the documents' order.
+#[tactic(auto, using(crate::proofs::Laws::day_laws))]
+pub fn check_day(day: &[u8]) -> Result<(), Refusal>
+    ensures { fault_of result ≡ day_fault day.now }
 {
-    let header = header_number(day);
-    if header != 0 {
-        return header;
-    }
-    let market = market_number(day);
-    if market != 0 {
-        return market;
-    }
+    check_header(day)?;
+    check_market(day)?;
     let n = line_count(day);
     let from = records_at(day);
-    let count = index(record_count(day));
-    let records = records_number(day, from, n, count);
-    if records != 0 {
-        return records;
-    }
-    let lines = line::lines_number(day, lines_at(day), n, from, count);
-    if lines != 0 {
-        return lines;
-    }
-    keys_number(day, n)
+    let count = record_count(day) as usize;
+    check_records(day, from, n, count)?;
+    check_lines(day, lines_at(day), n, from, count)?;
+    check_keys(day, n)
 }

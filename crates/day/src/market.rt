@@ -1,61 +1,61 @@
 // The market table's refusals: refusals 4 and 5.
-ghost use Rattle.std.specs.Prelude.{◌≡◌, ◌≤◌, length};
-ghost use Rattle.rules.specs.Fold.{first};
-ghost use Rattle.rules.specs.Refusals.{market_price_fault, mark_fault, market_fault};
+ghost use Rattle.std.specs.Prelude.{◌≡◌, ◌≤◌, ◌<◌, length, ltb};
+ghost use Rattle.rules.specs.Fold.{refuse, first};
+ghost use Rattle.rules.specs.Layout.{market_word, price_most};
+ghost use Rattle.rules.specs.Refusals.{mark_fault, market_price_fault, market_fault};
+ghost use Rattle.refusals.specs.Numbers.{fault_of};
 
 use layout::market::{cap_mark, clawback, market_place};
-use units::{Price, price_refusal};
+use refusals::Refusal;
+use units::{Kind, Price};
+
+// Refusal 4 of word j of the table, a price.
+#[tactic(auto, using(crate::proofs::market::Market::price_laws))]
+fn check_price(day: &[u8], j: usize) -> Result<(), Refusal>
+    requires { (72 ≤ length day.now) × (j < 12) }
+    ensures { fault_of result ≡ refuse 4 (ltb price_most (market_word day.now j)) }
+{
+    Price::read(day, market_place(day, j)).ok_or(Refusal::MarketPrice)?;
+    Ok(())
+}
 
 // Refusal 4 of the market prices. The loop maintains that no price of a schedule before s is above the limit.
-fn market_prices_number(day: &[u8]) -> u32
+#[tactic(auto, using(crate::proofs::market::Market::market_laws))]
+fn check_market_prices(day: &[u8]) -> Result<(), Refusal>
     requires { 72 ≤ length day.now }
-    ensures { result ≡ first (market_price_fault day.now) 5 }
+    ensures { fault_of result ≡ first (market_price_fault day.now) 5 }
 {
-    let mut s = 0;
-    while s < 5 {
-        let fault = price_refusal(Price::read(day, market_place(day, s)), 4);
-        if fault != 0 {
-            return fault;
-        }
-        s += 1;
+    for s in 0..5 {
+        check_price(day, s)?;
     }
-    0
+    Ok(())
 }
 
 // Refusal 5 of the cap marks. The loop maintains that no mark of a schedule before s is above 1.
-fn marks_number(day: &[u8]) -> u32
+#[tactic(auto, using(crate::proofs::market::Market::market_laws))]
+fn check_marks(day: &[u8]) -> Result<(), Refusal>
     requires { 72 ≤ length day.now }
-    ensures { result ≡ first (mark_fault day.now) 5 }
+    ensures { fault_of result ≡ first (mark_fault day.now) 5 }
 {
-    let mut s = 0;
-    while s < 5 {
+    for s in 0..5 {
         if 1 < cap_mark(day, s) {
-            return 5;
+            return Err(Refusal::MarketMark);
         }
-        s += 1;
     }
-    0
+    Ok(())
 }
 
 // Refusals 4 and 5.
-pub fn market_number(day: &[u8]) -> u32
+#[tactic(auto, using(crate::proofs::market::Market::market_laws))]
+pub fn check_market(day: &[u8]) -> Result<(), Refusal>
     requires { 72 ≤ length day.now }
-    ensures { result ≡ market_fault day.now }
+    ensures { fault_of result ≡ market_fault day.now }
 {
-    let prices = market_prices_number(day);
-    if prices != 0 {
-        return prices;
-    }
-    let cap = price_refusal(Price::read(day, market_place(day, 10)), 4);
-    if cap != 0 {
-        return cap;
-    }
-    let marks = marks_number(day);
-    if marks != 0 {
-        return marks;
-    }
+    check_market_prices(day)?;
+    check_price(day, 10)?;
+    check_marks(day)?;
     if 1 < clawback(day) {
-        return 5;
+        return Err(Refusal::MarketMark);
     }
-    0
+    Ok(())
 }

@@ -2,97 +2,60 @@
 ghost use Rattle.std.specs.Prelude.{◌≡◌, ◌+◌, ◌*◌, ◌≤◌, ◌<◌, length};
 ghost use Rattle.rules.specs.Fold.{first, ◌or_else◌};
 ghost use Rattle.rules.specs.Refusals.{record_fault, same_record, twin_fault};
+ghost use Rattle.refusals.specs.Numbers.{fault_of};
 
 use layout::records::{record_line, record_order, record_schedule};
-use numbers::index;
+use refusals::Refusal;
 
 // Refusal 20 of record i, in a file of n lines.
-fn record_number(day: &[u8], from: usize, n: usize, i: usize) -> u32
+#[tactic(auto, using(crate::proofs::records::Records::record_tests))]
+fn check_record(day: &[u8], from: usize, n: usize, i: usize) -> Result<(), Refusal>
     requires { from + 32 * (i + 1) ≤ length day.now }
-    ensures { result ≡ record_fault day.now from n i }
+    ensures { fault_of result ≡ record_fault day.now from n i }
 {
-    if n <= index(record_line(day, from, i)) {
-        return 20;
-    }
     let schedule = record_schedule(day, from, i);
-    if schedule == 0 {
-        return 20;
+    if n <= record_line(day, from, i) as usize || schedule == 0 || 5 < schedule {
+        return Err(Refusal::AdHocLineOrSchedule);
     }
-    if 5 < schedule {
-        return 20;
-    }
-    0
+    Ok(())
 }
 
-// Refusal 20. The loop maintains that no record before i has this fault.
-fn named_number(day: &[u8], from: usize, n: usize, count: usize) -> u32
-    requires { from + 32 * count ≤ length day.now }
-    ensures { result ≡ first (record_fault day.now from n) count }
-{
-    let mut i = 0;
-    while i < count {
-        let fault = record_number(day, from, n, i);
-        if fault != 0 {
-            return fault;
-        }
-        i += 1;
-    }
-    0
-}
-
-// Whether records h and i agree in line, schedule and order number.
+// Whether records h and i agree in line, schedule and order number. Word by word: a key of three words with a derived `==` was slower.
+#[tactic(auto, unfolding(rules::specs::Refusals::same_record))]
 fn same_record(day: &[u8], from: usize, h: usize, i: usize) -> bool
     requires { (from + 32 * (i + 1) ≤ length day.now) × (h < i) }
     ensures { result ≡ same_record day.now from h i }
 {
-    if record_line(day, from, h) != record_line(day, from, i) {
-        return false;
-    }
-    if record_schedule(day, from, h) != record_schedule(day, from, i) {
-        return false;
-    }
-    record_order(day, from, h) == record_order(day, from, i)
+    record_line(day, from, h) == record_line(day, from, i)
+        && record_schedule(day, from, h) == record_schedule(day, from, i)
+        && record_order(day, from, h) == record_order(day, from, i)
 }
 
 // Refusal 21 of record i and those before it. The loop maintains that none before h agrees with record i.
-fn twin_number(day: &[u8], from: usize, i: usize) -> u32
+#[tactic(auto, using(crate::proofs::records::Records::twin_laws))]
+fn check_twin(day: &[u8], from: usize, i: usize) -> Result<(), Refusal>
     requires { from + 32 * (i + 1) ≤ length day.now }
-    ensures { result ≡ twin_fault day.now from i }
+    ensures { fault_of result ≡ twin_fault day.now from i }
 {
-    let mut h = 0;
-    while h < i {
+    for h in 0..i {
         if same_record(day, from, h, i) {
-            return 21;
+            return Err(Refusal::EqualAdHoc);
         }
-        h += 1;
     }
-    0
+    Ok(())
 }
 
-// Refusal 21. The loop maintains that no two records before i agree.
-fn twins_number(day: &[u8], from: usize, count: usize) -> u32
+// Refusals 20 and 21. The loops maintain that no record before i has a fault.
+#[tactic(auto, using(crate::proofs::records::Records::part_laws))]
+pub fn check_records(day: &[u8], from: usize, n: usize, count: usize) -> Result<(), Refusal>
     requires { from + 32 * count ≤ length day.now }
-    ensures { result ≡ first (twin_fault day.now from) count }
+    ensures { fault_of result ≡ first (record_fault day.now from n) count or_else first (twin_fault day.now from) count }
 {
-    let mut i = 0;
-    while i < count {
-        let fault = twin_number(day, from, i);
-        if fault != 0 {
-            return fault;
-        }
-        i += 1;
+    for i in 0..count {
+        check_record(day, from, n, i)?;
     }
-    0
-}
-
-// Refusals 20 and 21.
-pub fn records_number(day: &[u8], from: usize, n: usize, count: usize) -> u32
-    requires { from + 32 * count ≤ length day.now }
-    ensures { result ≡ first (record_fault day.now from n) count or_else first (twin_fault day.now from) count }
-{
-    let named = named_number(day, from, n, count);
-    if named != 0 {
-        return named;
+    for i in 0..count {
+        check_twin(day, from, i)?;
     }
-    twins_number(day, from, count)
+    Ok(())
 }

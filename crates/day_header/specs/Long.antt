@@ -1,5 +1,5 @@
 -- A file that is longer than any accepted one: its first bytes and its length decide its number.
-use Rattle.std.specs.Prelude.{ℕ, ◌+◌, ◌≤◌, ◌<◌, ◌≡◌, List, cond, not, length, get_or, take, eqb}
+use Rattle.std.specs.Prelude.{ℕ, ◌+◌, ◌≤◌, ◌<◌, ◌≡◌, List, length, get_or, take}
 use Rattle.std.proofs.Common.{arith, sym, ◌∙◌, ap, get_or-take}
 use Rattle.rules.specs.Layout.{word, ad_hoc, market_at, lines_at, record_count}
 use Rattle.rules.specs.Refusals.{header_fault_of, header_fault, day_fault}

@@ -4,6 +4,7 @@
 
 ghost use Rattle.std.specs.Prelude.{◌≡◌, ℕ, ◌≤◌, ◌<◌, List, length};
 ghost use Rattle.rules.specs.Refusals.{header_fault_of, header_fault, day_fault, line_part_fault, line_part};
+ghost use Rattle.refusals.specs.Numbers.{fault_of};
 ghost use Rattle.day_header.specs.Records.{misplaced};
 ghost use Rattle.day_header.specs.Long.{Begins};
 
@@ -12,92 +13,84 @@ use layout::header::{
     line_count, line_place, lines_at, lines_offset, market_at, market_offset, record_count,
     records_at, records_offset,
 };
+use refusals::Refusal;
 
 // Whether the header says of the records another place than theirs.
+#[tactic(auto, unfolding(crate::specs::Records::misplaced))]
 fn records_misplaced(day: &[u8]) -> bool
     requires { 64 ≤ length day.now }
     ensures { result ≡ misplaced day.now }
 {
-    if ad_hoc(day) {
-        return records_offset(day) != records_at(day);
-    }
-    false
+    ad_hoc(day) && records_offset(day) != records_at(day)
 }
 
 // Refusals 2, 3 and 19 of a file of `size` bytes, of which the first are lent.
-fn header_of(day: &[u8], size: usize) -> u32
+#[tactic(auto, using(crate::proofs::Header::header_tests))]
+fn check_header_of(day: &[u8], size: usize) -> Result<(), Refusal>
     requires { (64 ≤ length day.now) × (64 ≤ size) }
-    ensures { result ≡ header_fault_of day.now size }
+    ensures { fault_of result ≡ header_fault_of day.now size }
 {
     let n = line_count(day);
-    if n == 0 {
-        return 2;
+    if n == 0 || MOST_LINES < n {
+        return Err(Refusal::LineCount);
     }
-    if MOST_LINES < n {
-        return 2;
-    }
-    if market_offset(day) != market_at(day) {
-        return 3;
-    }
-    if lines_offset(day) != lines_at(day) {
-        return 3;
-    }
-    if records_misplaced(day) {
-        return 3;
+    if market_offset(day) != market_at(day)
+        || lines_offset(day) != lines_at(day)
+        || records_misplaced(day)
+    {
+        return Err(Refusal::Layout);
     }
     let end = file_length(day);
-    if length_word(day) != end {
-        return 3;
-    }
-    if size != end {
-        return 3;
+    if length_word(day) != end || size != end {
+        return Err(Refusal::Layout);
     }
     if MOST_RECORDS < record_count(day) {
-        return 19;
+        return Err(Refusal::AdHocCount);
     }
-    0
+    Ok(())
 }
 
 // Refusals 1 to 3 and 19.
-pub fn header_number(day: &[u8]) -> u32
-    ensures { result ≡ header_fault day.now }
+#[tactic(auto, using(crate::proofs::Header::header_tests), unfolding(rules::specs::Refusals::header_fault))]
+pub fn check_header(day: &[u8]) -> Result<(), Refusal>
+    ensures { fault_of result ≡ header_fault day.now }
 {
     if day.len() < HEADER_BYTES {
-        return 1;
+        return Err(Refusal::FileShort);
     }
-    header_of(day, day.len())
+    check_header_of(day, day.len())
 }
 
-// The number of any file of `size` bytes, more than 44,360, which begins with the lent bytes: no accepted one is as long.
-pub fn long_number(head: &[u8], size: usize) -> u32
+// The refusal of any file of `size` bytes, more than 44,360, which begins with the lent bytes: no accepted one is as long.
+pub fn check_long(head: &[u8], size: usize) -> Result<(), Refusal>
     requires { (64 ≤ length head.now) × (44360 < size) }
-    ensures { (d : List ℕ) → Begins d head.now → length d ≡ size → result ≡ day_fault d }
+    ensures { (d : List ℕ) → Begins d head.now → length d ≡ size → fault_of result ≡ day_fault d }
 {
-    header_of(head, size)
+    check_header_of(head, size)
 }
 
-// The number of the line part, for any bytes and any k.
-pub fn line_part_number(day: &[u8], k: usize) -> u32
-    ensures { result ≡ line_part_fault day.now k }
+// The refusal of the line part, for any bytes and any k.
+#[tactic(auto, using(crate::proofs::Header::part_laws))]
+pub fn check_line_part(day: &[u8], k: usize) -> Result<(), Refusal>
+    ensures { fault_of result ≡ line_part_fault day.now k }
 {
-    let header = header_number(day);
-    if header != 0 {
-        return header;
-    }
+    check_header(day)?;
     if line_count(day) <= k {
-        return 16;
+        return Err(Refusal::NoLine);
     }
-    0
+    Ok(())
 }
 
-// The caller's own bytes for line k, or the empty part where `line_part_number` is not 0.
+// The caller's own bytes for line k, as `&day[..]` (document 01), or the empty part where `check_line_part` refuses.
+#[tactic(auto, using(crate::proofs::Header::part_laws))]
 pub fn line_part(day: &[u8], k: usize) -> &[u8]
     ensures { result.now ≡ line_part day.now k }
 {
-    let number = line_part_number(day, k);
-    if number != 0 {
-        return &day[..0];
+    match check_line_part(day, k) {
+        Ok(()) => {
+            let from = line_place(day, k);
+            &day[from..from + LINE_BYTES]
+        }
+        Err(_) => &day[..0],
     }
-    let from = line_place(day, k);
-    &day[from..from + LINE_BYTES]
 }
