@@ -1,5 +1,5 @@
 -- Laws of where a cursor stands, from what acceptance says of the bid.
-use Rattle.std.specs.Prelude.{◌≡◌, ℕ, suc, ◌+◌, ◌-◌, ◌<◌, ◌≤◌, List, [], ◌∷◌, length, ◌==◌}
+use Rattle.std.specs.Prelude.{◌≡◌, ℕ, suc, ◌+◌, ◌-◌, ◌<◌, ◌≤◌, List, [], ◌∷◌, length, get_or, ◌==◌}
 use native.Mathlib.Omega.{arith}
 use Rattle.std.proofs.Math.Decide.{dec_lt}
 use Rattle.std.proofs.Math.Path.{refl}
@@ -81,19 +81,19 @@ standing {w} {places} {u} h {s} l =
     }
 
 -- a list of five values, from each
-pub five_of : (f : ℕ → ℕ) (l : List ℕ) → length l ≡ 5 → ((s : ℕ) → s < 5 → at l s ≡ f s) → l ≡ five f
-five_of f [] e h = absurd (omega arith)
-five_of f (a ∷ []) e h = absurd (omega arith)
-five_of f (a ∷ b ∷ []) e h = absurd (omega arith)
-five_of f (a ∷ b ∷ c ∷ []) e h = absurd (omega arith)
-five_of f (a ∷ b ∷ c ∷ d ∷ []) e h = absurd (omega arith)
-five_of f (a ∷ b ∷ c ∷ d ∷ g ∷ []) e h = same_five (h 0 (omega arith)) (h 1 (omega arith)) (h 2 (omega arith)) (h 3 (omega arith)) (h 4 (omega arith))
-five_of f (a ∷ b ∷ c ∷ d ∷ g ∷ x ∷ l) e h = absurd (omega arith)
+pub five_of : {A : Type 0} (d : A) (f : ℕ → A) (l : List A) → length l ≡ 5 → ((s : ℕ) → s < 5 → get_or l s d ≡ f s) → l ≡ five f
+five_of z f [] e h = absurd (omega arith)
+five_of z f (a ∷ []) e h = absurd (omega arith)
+five_of z f (a ∷ b ∷ []) e h = absurd (omega arith)
+five_of z f (a ∷ b ∷ c ∷ []) e h = absurd (omega arith)
+five_of z f (a ∷ b ∷ c ∷ d ∷ []) e h = absurd (omega arith)
+five_of z f (a ∷ b ∷ c ∷ d ∷ g ∷ []) e h = same_five (h 0 (omega arith)) (h 1 (omega arith)) (h 2 (omega arith)) (h 3 (omega arith)) (h 4 (omega arith))
+five_of z f (a ∷ b ∷ c ∷ d ∷ g ∷ x ∷ l) e h = absurd (omega arith)
 
 -- five places that are those at a step which ends at u
 pub sweep_is : (w : List ℕ) (u : ℕ) {l : List ℕ} → length l ≡ 5 → ((s : ℕ) → s < 5 → at l s ≡ place_of w s u) → ◌≡◌ {A = Sweep} (record { at = l }) (sweep_of w u)
 unfolding sweep_of
-sweep_is w u {l} e h = ap (λ (z : List ℕ). record { at = z }) (five_of (λ s. place_of w s u) l e h)
+sweep_is w u {l} e h = ap (λ (z : List ℕ). record { at = z }) (five_of 0 (λ s. place_of w s u) l e h)
 
 -- breaks rise
 pub rises_next : {w : List ℕ} {s : ℕ} → AcceptedBid w s → (k : ℕ) → suc k < bid_count w s → bid_break w s k < bid_break w s (suc k)

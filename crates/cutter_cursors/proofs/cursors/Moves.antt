@@ -6,16 +6,11 @@ use Rattle.rules.specs.Fold.{five, at}
 use Rattle.rules.specs.Layout.{quantity_most, hedge, bid_count, bid_break}
 use Rattle.rules.specs.Steps.{bid_step}
 use Rattle.rules.specs.Payments.{bit}
-use Rattle.cutter_cursors.specs.Search.{bid_first, first_mono}
+use Rattle.cutter_cursors.specs.Search.{bid_first, first_mono, bit_is}
 use Rattle.cutter_cursors.specs.Sweep.{Standing, past, place_of, stop_of, gap_of, break_gap, least_to, next_gap}
 use Rattle.cutter_cursors.specs.Places.{of_bid, place_below, break_pulled, step_after}
 
 -- a test as a number
--- the conversion of a test to a number is the paper's
-bit_is : (t : Bool) → bool_byte t ≡ bit t
-bit_is true = refl
-bit_is false = refl
-
 bit_ne : (a b : ℕ) → (a ≡ b → ⊥) → 0 ≡ bit (eqb a b)
 bit_ne a b e = rw (ne_eqb a b e)
 

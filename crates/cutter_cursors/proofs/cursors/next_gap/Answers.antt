@@ -17,7 +17,7 @@ gap-requires c = (omega (arith, hedge_limit c.requires.0.line), c.requires.1)
 pub returns : goal.returns
 returns c =
     let gaps : c.from_fn-gaps.result ≡ five (break_gap c.args.line.now c.args.e) =
-    five_of (break_gap c.args.line.now c.args.e) _ c.from_fn-gaps.ensures.items.long (λ s l. search (rules, c.from_fn-gaps.ensures.items.at s 0 l))
+    five_of 0 (break_gap c.args.line.now c.args.e) _ c.from_fn-gaps.ensures.items.long (λ s l. search (rules, c.from_fn-gaps.ensures.items.at s 0 l))
     in
     let least = next_is _ _ gaps c.min.ensures c.min-2.ensures c.min-3.ensures c.hedge.ensures c.gap.ensures
     c.min-4.ensures c.min-5.ensures in
