@@ -1,55 +1,64 @@
 -- Refusals 11 to 13, from what the code has read.
-use Prim.Native.Nat.{ℕ, ◌+◌, ◌*◌, ◌≤◌, ◌<◌}
-use native.Mathlib.Omega.{arith}
-use mathlib.Core.Path.{◌≡◌, sym, ◌∙◌}
-use mathlib.Core.List.{List}
-use borrow.Author.Tests.{lt-ltb, le-ltb, eq-eqb, ne_eqb}
-use Rattle.rules.specs.Fold.{first, five}
-use Rattle.rules.specs.Layout.{excess_most, word, side, hedge}
+use Rattle.std.specs.Prelude.{ℕ, ◌+◌, ◌≤◌, ◌<◌, ◌≡◌, List}
+use Rattle.std.proofs.Common.{arith}
+use Rattle.rules.specs.Fold.{refuse, ◌or_else◌, first, at, five}
+use Rattle.rules.specs.Layout.{excess_most, side, hedge, actual_entry}
 use Rattle.rules.specs.Steps.{greatest_break}
 use Rattle.rules.specs.Quantities.{pricing_total, table_total}
 use Rattle.rules.specs.Refusals.{total_fault, actual_fault}
-use Rattle.laws.specs.Folds.{first_same, at_five, not_eq, not_ne, stops, passes, ends_at, none_at}
-use Rattle.units.specs.declared.QuantityRead.{QuantityRead}
-use Rattle.units.specs.Kinds.{quantity_read, quantity_number}
+use Rattle.laws.specs.Folds.{first_same, at_five}
 use Rattle.line_limits.specs.Faults.{hedge_fault, totals_fault}
-use Rattle.units.proofs.Reading.{quantity_refused}
 
 -- refusal 11
-module _ (w : List ℕ) (m h : ℕ) (hedge-is : h ≡ hedge w) where
-  pub hedge_above : m < h → 11 ≡ hedge_fault w m
-  unfolding hedge_fault
-  hedge_above l = stops 10 _ _ (lt-ltb m (hedge w) (omega arith))
+pub hedge_above : (w : List ℕ) (m : ℕ) → m < hedge w → 11 ≡ hedge_fault w m
+unfolding hedge_fault refuse ◌or_else◌
+hedge_above w m h = grind arith
 
-  module _ (l : h ≤ m) (x : ℕ) (sd : x ≡ side w) where
-    pub hedge_withdrawal : x ≡ 1 → (h ≡ 0 → ⊥) → 11 ≡ hedge_fault w m
-    unfolding hedge_fault
-    hedge_withdrawal e n =
-        passes 11 _ _ _ (le-ltb m (hedge w) (omega arith))
-        (ends_at 11 _ (rw (eq-eqb (side w) 1 (sym sd ∙ e)) (not_eq (hedge w) 0 (λ z. n (hedge-is ∙ z)))))
+pub hedge_withdrawal : (w : List ℕ) (m : ℕ) → side w ≡ 1 → (hedge w ≡ 0 → ⊥) → 11 ≡ hedge_fault w m
+unfolding hedge_fault refuse ◌or_else◌
+hedge_withdrawal w m e n = grind arith
 
-    pub hedge_none : x ≡ 1 → h ≡ 0 → 0 ≡ hedge_fault w m
-    unfolding hedge_fault
-    hedge_none e z =
-        passes 11 _ _ _ (le-ltb m (hedge w) (omega arith))
-        (none_at 11 _ (rw (eq-eqb (side w) 1 (sym sd ∙ e)) (not_ne (hedge w) 0 (sym hedge-is ∙ z))))
+pub hedge_injection : (w : List ℕ) (m : ℕ) → hedge w ≤ m → (side w ≡ 1 → ⊥) → 0 ≡ hedge_fault w m
+unfolding hedge_fault refuse ◌or_else◌
+hedge_injection w m l n = grind arith
 
-    pub hedge_injection : (x ≡ 1 → ⊥) → 0 ≡ hedge_fault w m
-    unfolding hedge_fault
-    hedge_injection n =
-        passes 11 _ _ _ (le-ltb m (hedge w) (omega arith))
-        (none_at 11 _ (rw (ne_eqb (side w) 1 (λ e. n (sd ∙ e)))))
+pub hedge_none : (w : List ℕ) (m : ℕ) → hedge w ≤ m → hedge w ≡ 0 → 0 ≡ hedge_fault w m
+unfolding hedge_fault refuse ◌or_else◌
+hedge_none w m l n = grind arith
 
--- refusal 12, with M and the totals that were worked out
-pub totals_are : (t : List (List ℕ)) (w : List ℕ) (m : ℕ) (p o : List ℕ) → m ≡ greatest_break w + excess_most → p ≡ five (pricing_total w) → o ≡ five (table_total t)
-    → first (totals_fault m p o) 5 ≡ first (total_fault t w) 5
+pub ruleset hedge_cases = (hedge_above, hedge_withdrawal, hedge_injection, hedge_none)
+
+-- refusal 12
+pub pricing_above : (m : ℕ) (p o : List ℕ) (s : ℕ) → m < at p s → 12 ≡ totals_fault m p o s
+unfolding totals_fault refuse ◌or_else◌
+pricing_above m p o s h = grind arith
+
+pub operating_above : (m : ℕ) (p o : List ℕ) (s : ℕ) → m < at o s → 12 ≡ totals_fault m p o s
+unfolding totals_fault refuse ◌or_else◌
+operating_above m p o s h = grind arith
+
+pub totals_within : (m : ℕ) (p o : List ℕ) (s : ℕ) → at p s ≤ m → at o s ≤ m → totals_fault m p o s ≡ 0
+unfolding totals_fault refuse ◌or_else◌
+totals_within m p o s h l = grind arith
+
+pub ruleset totals_cases = (pricing_above, operating_above, totals_within)
+
+-- the same with M and the totals that were worked out
+pub totals_are : (t : List (List ℕ)) (w : List ℕ) (m : ℕ) → m ≡ greatest_break w + excess_most
+    → first (totals_fault m (five (pricing_total w)) (five (table_total t))) 5 ≡ first (total_fault t w) 5
 unfolding totals_fault total_fault
-totals_are t w m p o e a b = first_same 5 (totals_fault m p o) (total_fault t w) same
+totals_are t w m e = first_same 5 (totals_fault m (five (pricing_total w)) (five (table_total t))) (total_fault t w) same
   where
-    same : (i : ℕ) → i < 5 → totals_fault m p o i ≡ total_fault t w i
-    same i h = rw (e, a, b, at_five (pricing_total w) 0 i h, at_five (table_total t) 0 i h)
+    same : (i : ℕ) → i < 5 → totals_fault m (five (pricing_total w)) (five (table_total t)) i ≡ total_fault t w i
+    same i h = rw (e, at_five (pricing_total w) 0 i h, at_five (table_total t) 0 i h)
 
 -- refusal 13
-pub actual_read : (w : List ℕ) (i p x : ℕ) (r : QuantityRead) → p ≡ 4 * (160 + i) → r ≡ quantity_read (word w p) → x ≡ quantity_number 13 r → x ≡ actual_fault w i
-unfolding actual_fault
-actual_read w i p x r e h g = quantity_refused w p (4 * (160 + i)) e r h 13 x g
+pub actual_above : (w : List ℕ) (i : ℕ) → 200000000 < actual_entry w i → 13 ≡ actual_fault w i
+unfolding actual_fault refuse
+actual_above w i h = grind arith
+
+pub actual_within : (w : List ℕ) (i : ℕ) → actual_entry w i ≤ 200000000 → actual_fault w i ≡ 0
+unfolding actual_fault refuse
+actual_within w i h = grind arith
+
+pub ruleset actual_cases = (actual_above, actual_within)

@@ -4,97 +4,81 @@
 
 pub mod greatest_break;
 
-ghost use Rattle.std.specs.Prelude.{◌≡◌, ◌+◌, length};
+ghost use Rattle.std.specs.Prelude.{◌≡◌, ◌+◌};
 ghost use Rattle.rules.specs.Fold.{first};
 ghost use Rattle.rules.specs.Layout.{excess_most};
 ghost use Rattle.rules.specs.Refusals.{bid_fault, actual_fault};
+ghost use Rattle.refusals.specs.Numbers.{fault_of};
 ghost use Rattle.line_limits.specs.Faults.{hedge_fault, totals_fault, limits_fault};
 
 use crate::greatest_break::greatest_break;
 use layout::fields::{actual_place, hedge, side};
+use layout::header::Line;
 use line_quantities::rows::pricing_totals;
 use line_totals::operating_totals;
-use numbers::wide;
-use units::{Quantity, quantity_refusal};
+use refusals::Refusal;
+use units::{Kind, Quantity};
 
 // What a total may have above M (document 02, F-2).
 const EXCESS_MOST: u64 = 1000;
 
 // Refusal 11, with M.
-pub fn hedge_number(line: &[u8], most: u32) -> u32
-    requires { length line.now ≡ 660 }
-    ensures { result ≡ hedge_fault line.now most }
+#[tactic(auto, using(crate::proofs::Laws::hedge_cases))]
+pub fn check_hedge(line: &Line, most: u32) -> Result<(), Refusal>
+    ensures { fault_of result ≡ hedge_fault line.now most }
 {
     let hedged = hedge(line);
-    if most < hedged {
-        return 11;
+    if most < hedged || side(line) == 1 && hedged != 0 {
+        Err(Refusal::Hedge)
+    } else {
+        Ok(())
     }
-    if side(line) == 1 {
-        if hedged != 0 {
-            return 11;
-        }
-    }
-    0
 }
 
 // The most that a total may be, with M.
 fn total_most(most: u32) -> u64
     ensures { result ≡ most + excess_most }
 {
-    wide(most) + EXCESS_MOST
+    u64::from(most) + EXCESS_MOST
 }
 
 // Refusal 12, with the most that a total may be and the two rows of totals. The loop maintains that no total of a schedule before s is
 // above it.
-pub fn totals_number(limit: u64, pricing: [u64; 5], operating: [u64; 5]) -> u32
-    ensures { result ≡ first (totals_fault limit pricing operating) 5 }
+#[tactic(auto, using(laws::specs::Folds::first_none, laws::specs::Folds::first_more, laws::specs::Folds::first_stop, crate::proofs::Laws::totals_cases))]
+pub fn check_totals(limit: u64, pricing: [u64; 5], operating: [u64; 5]) -> Result<(), Refusal>
+    ensures { fault_of result ≡ first (totals_fault limit pricing operating) 5 }
 {
-    let mut s = 0;
-    while s < 5 {
-        if limit < pricing[s] {
-            return 12;
+    for s in 0..5 {
+        if limit < pricing[s] || limit < operating[s] {
+            return Err(Refusal::Totals);
         }
-        if limit < operating[s] {
-            return 12;
-        }
-        s += 1;
     }
-    0
+    Ok(())
 }
 
 // Refusal 13. The loop maintains that no actual of an interval before i is above the limit.
-pub fn actuals_number(line: &[u8]) -> u32
-    requires { length line.now ≡ 660 }
-    ensures { result ≡ first (actual_fault line.now) 5 }
+#[tactic(auto, using(laws::specs::Folds::first_none, laws::specs::Folds::first_more, laws::specs::Folds::first_stop, crate::proofs::Laws::actual_cases))]
+pub fn check_actuals(line: &Line) -> Result<(), Refusal>
+    ensures { fault_of result ≡ first (actual_fault line.now) 5 }
 {
-    let mut i = 0;
-    while i < 5 {
-        let fault = quantity_refusal(Quantity::read(line, actual_place(i)), 13);
-        if fault != 0 {
-            return fault;
-        }
-        i += 1;
+    for i in 0..5 {
+        Quantity::read(line, actual_place(i)).ok_or(Refusal::Actuals)?;
     }
-    0
+    Ok(())
 }
 
 // Refusals 11 to 13, where the bids are accepted, with the table of operating quantities that counts for the line.
-pub fn limits_number(line: &[u8], table: [[u32; 5]; 5]) -> u32
-    requires { (length line.now ≡ 660) × (first (bid_fault line.now) 5 ≡ 0) }
-    ensures { result ≡ limits_fault table line.now }
+#[tactic(auto, using(laws::specs::Folds::part_stops, laws::specs::Folds::part_passes, refusals::specs::Laws::is_refused, crate::proofs::Laws::totals_are), unfolding(crate::specs::Faults::limits_fault))]
+pub fn check_limits(line: &Line, table: [[u32; 5]; 5]) -> Result<(), Refusal>
+    requires { first (bid_fault line.now) 5 ≡ 0 }
+    ensures { fault_of result ≡ limits_fault table line.now }
 {
     let most = greatest_break(line);
-    let hedging = hedge_number(line, most);
-    if hedging != 0 {
-        return hedging;
-    }
-    let totals = totals_number(
+    check_hedge(line, most)?;
+    check_totals(
         total_most(most),
         pricing_totals(line),
         operating_totals(table),
-    );
-    if totals != 0 {
-        return totals;
-    }
-    actuals_number(line)
+    )?;
+    check_actuals(line)
 }

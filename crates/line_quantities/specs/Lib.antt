@@ -1,3 +1,2 @@
--- Sums of words of a line, and the places of the records in force.
-pub mod Words
+-- The places of the records in force.
 pub mod Highest

@@ -1,136 +1,123 @@
-// A line's operating rows in force (document 02, F-5). Records stand from byte `from` on. The place of a record counts from 1, and 0 is no
-// record.
-ghost use Rattle.std.specs.Prelude.{◌≡◌, ℕ, ◌+◌, ◌*◌, ◌≤◌, ◌<◌, length};
-ghost use Rattle.rules.specs.Fold.{five, at};
+// A line's operating rows in force (document 02, F-5).
+ghost use Rattle.std.specs.Prelude.{◌≡◌, ℕ, ◌+◌, ◌*◌, ◌≤◌, ◌<◌, length, get_or, None};
+ghost use Rattle.rules.specs.Fold.{five};
 ghost use Rattle.rules.specs.Layout.{record_entry, file_length, line_at};
 ghost use Rattle.rules.specs.InForce.{is_above, row_at, table_with, table_in_force};
-ghost use Rattle.line_quantities.specs.Highest.{place_with, places_with, highest_places};
+ghost use Rattle.line_quantities.specs.Highest.{number, place_with, highest_places};
 
 use crate::rows::{operating_row, operating_table};
-use layout::header::{record_count, records_at};
-use layout::records::{record_entry, record_line, record_order, record_schedule};
-use numbers::index;
+use layout::header::Line;
+use layout::records::Records;
+use std::array::from_fn;
 
-// The places of the records with the highest order numbers for a line, by schedule.
-#[derive(Clone, Copy)]
-pub struct Places {
-    pub of: [usize; 5],
-}
-
-// Whether the order number of record i is above that of the record at place p, one before it.
-fn is_above(b: &[u8], from: usize, i: usize, p: usize) -> bool
-    requires { (from + 32 * (i + 1) ≤ length b.now) × (p ≤ i) }
-    ensures { result ≡ is_above b.now from i p }
+// Whether the order number of record i is above that of the record in force before it, where there is one.
+#[tactic(auto, unfolding(rules::specs::InForce::is_above))]
+fn is_above(records: &Records, i: usize, before: Option<usize>) -> bool
+    requires { (i < records.now.count) × (number before ≤ i) }
+    ensures { result ≡ is_above records.now.bytes.now records.now.from i (number before) }
 {
-    if p == 0 {
-        return true;
-    }
-    record_order(b, from, p - 1) < record_order(b, from, i)
-}
-
-// Of one schedule, which counts from 1 here: the place of the record with the highest order number, with record i of the line.
-fn place_with(b: &[u8], from: usize, i: usize, schedule: u32, p: usize) -> usize
-    requires { (from + 32 * (i + 1) ≤ length b.now) × (p ≤ i) }
-    ensures { result ≡ place_with b.now from i schedule p }
-{
-    if record_schedule(b, from, i) != schedule {
-        return p;
-    }
-    if is_above(b, from, i, p) {
-        return i + 1;
-    }
-    p
-}
-
-// The same of the five.
-fn places_with(b: &[u8], from: usize, i: usize, places: Places) -> Places
-    requires { (from + 32 * (i + 1) ≤ length b.now) × ((s : ℕ) → s < 5 → at places.of s ≤ i) }
-    ensures { result ≡ places_with b.now from i places }
-{
-    let of = places.of;
-    Places {
-        of: [
-            place_with(b, from, i, 1, of[0]),
-            place_with(b, from, i, 2, of[1]),
-            place_with(b, from, i, 3, of[2]),
-            place_with(b, from, i, 4, of[3]),
-            place_with(b, from, i, 5, of[4]),
-        ],
+    match before {
+        None => true,
+        Some(h) => records.order(h) < records.order(i),
     }
 }
 
-// The places for line k, with record i more.
-fn places_after(b: &[u8], from: usize, i: usize, k: usize, places: Places) -> Places
-    requires { (from + 32 * (i + 1) ≤ length b.now) × (places ≡ highest_places b.now from k i) }
-    ensures { result ≡ highest_places b.now from k (i + 1) }
+// Of one schedule, which counts from 1 here: the record in force, with record i of the line.
+#[tactic(auto, unfolding(crate::specs::Highest::place_with))]
+fn place_with(records: &Records, i: usize, schedule: u32, before: Option<usize>) -> Option<usize>
+    requires { (i < records.now.count) × (number before ≤ i) }
+    ensures { result ≡ place_with records.now.bytes.now records.now.from i schedule before }
 {
-    if index(record_line(b, from, i)) != k {
-        return places;
+    if records.schedule(i) != schedule {
+        return before;
     }
-    places_with(b, from, i, places)
+    if is_above(records, i, before) {
+        Some(i)
+    } else {
+        before
+    }
 }
 
-// The places of the records in force for line k. The loop maintains that `places` are those among the first i.
-fn places_for(b: &[u8], from: usize, count: usize, k: usize) -> Places
-    requires { from + 32 * count ≤ length b.now }
-    ensures { result ≡ highest_places b.now from k count }
+// The same of the five schedules.
+fn places_with(records: &Records, i: usize, places: [Option<usize>; 5]) -> [Option<usize>; 5]
+    requires { (i < records.now.count) × ((s : ℕ) → s < 5 → number (get_or places s None) ≤ i) }
+    ensures { result ≡ five (λ s. place_with records.now.bytes.now records.now.from i (s + 1) (get_or places s None)) }
 {
-    let mut places = Places { of: [0; 5] };
-    let mut i = 0;
-    while i < count {
-        places = places_after(b, from, i, k, places);
-        i += 1;
+    from_fn(|s| place_with(records, i, s as u32 + 1, places[s]))
+}
+
+// The records in force for line k, by schedule.
+fn places_for(records: &Records, k: usize) -> [Option<usize>; 5]
+    ensures { result ≡ highest_places records.now.bytes.now records.now.from k records.now.count }
+{
+    let mut places = [None; 5];
+    for i in 0..records.count {
+        if records.line(i) as usize == k {
+            let after = places_with(records, i, places);
+            places = after;
+        }
     }
     places
 }
 
 // The quantities of record i.
-fn record_row(b: &[u8], from: usize, i: usize) -> [u32; 5]
-    requires { from + 32 * (i + 1) ≤ length b.now }
-    ensures { result ≡ five (record_entry b.now from i) }
+fn record_row(records: &Records, i: usize) -> [u32; 5]
+    requires { i < records.now.count }
+    ensures { result ≡ five (record_entry records.now.bytes.now records.now.from i) }
 {
-    [
-        record_entry(b, from, i, 0),
-        record_entry(b, from, i, 1),
-        record_entry(b, from, i, 2),
-        record_entry(b, from, i, 3),
-        record_entry(b, from, i, 4),
-    ]
+    from_fn(|j| records.entry(i, j))
 }
 
-// The row of the record at place p, or the line's own.
-fn row_at(b: &[u8], from: usize, line: &[u8], s: usize, p: usize) -> [u32; 5]
-    requires { (length line.now ≡ 660) × (s < 5) × (from + 32 * p ≤ length b.now) }
-    ensures { result ≡ row_at b.now from line.now s p }
+// The row of the record in force, or the line's own.
+#[tactic(auto, unfolding(rules::specs::InForce::row_at))]
+fn row_at(records: &Records, line: &Line, s: usize, place: Option<usize>) -> [u32; 5]
+    requires { (s < 5) × (number place ≤ records.now.count) }
+    ensures { result ≡ row_at records.now.bytes.now records.now.from line.now s (number place) }
 {
-    if p == 0 {
-        return operating_row(line, s);
+    match place {
+        None => operating_row(line, s),
+        Some(i) => record_row(records, i),
     }
-    record_row(b, from, p - 1)
 }
 
-// The rows in force of line k, whose bytes are lent, by `count` records.
-pub fn table_in_force(b: &[u8], from: usize, count: usize, k: usize, line: &[u8]) -> [[u32; 5]; 5]
-    requires { (length line.now ≡ 660) × (from + 32 * count ≤ length b.now) }
-    ensures { result ≡ table_with b.now from count k line.now }
+// The rows in force of line k, whose bytes are lent, by the records.
+fn table_with(records: &Records, k: usize, line: &Line) -> [[u32; 5]; 5]
+    ensures { result ≡ table_with records.now.bytes.now records.now.from records.now.count k line.now }
 {
-    if count == 0 {
+    if records.count == 0 {
         return operating_table(line);
     }
-    let places = places_for(b, from, count, k).of;
+    let places = places_for(records, k);
+    // Written out: the proof of array::from_fn did not close where each place is an array.
     [
-        row_at(b, from, line, 0, places[0]),
-        row_at(b, from, line, 1, places[1]),
-        row_at(b, from, line, 2, places[2]),
-        row_at(b, from, line, 3, places[3]),
-        row_at(b, from, line, 4, places[4]),
+        row_at(records, line, 0, places[0]),
+        row_at(records, line, 1, places[1]),
+        row_at(records, line, 2, places[2]),
+        row_at(records, line, 3, places[3]),
+        row_at(records, line, 4, places[4]),
     ]
 }
 
-// The rows in force of line k of a day, whose bytes are lent too.
-pub fn day_table(day: &[u8], k: usize, line: &[u8]) -> [[u32; 5]; 5]
-    requires { (64 ≤ length day.now) × (file_length day.now ≤ length day.now) × (length line.now ≡ 660) × (line.now ≡ line_at day.now k) }
+// The same by `count` records from byte `from` on.
+pub fn table_in_force(b: &[u8], from: usize, count: usize, k: usize, line: &Line) -> [[u32; 5]; 5]
+    requires { from + 32 * count ≤ length b.now }
+    ensures { result ≡ table_with b.now from count k line.now }
+{
+    table_with(
+        &Records {
+            bytes: b,
+            from,
+            count,
+        },
+        k,
+        line,
+    )
+}
+
+// The same by a day's records.
+pub fn day_table(day: &[u8], k: usize, line: &Line) -> [[u32; 5]; 5]
+    requires { (64 ≤ length day.now) × (file_length day.now ≤ length day.now) × (line.now ≡ line_at day.now k) }
     ensures { result ≡ table_in_force day.now k }
 {
-    table_in_force(day, records_at(day), index(record_count(day)), k, line)
+    table_with(&Records::of(day), k, line)
 }

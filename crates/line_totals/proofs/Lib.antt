@@ -1,2 +1,2 @@
--- Laws that proofs of functions cite.
+-- Laws that several functions' proofs cite.
 pub mod Totals

@@ -1,10 +1,15 @@
 -- Sums of rows.
 use Prim.Native.Nat.{ℕ}
-use mathlib.Core.Path.{◌≡◌, refl}
-use mathlib.Core.List.{List}
-use Rattle.rules.specs.Fold.{sum_to, five}
-use Rattle.line_totals.specs.Sums.{row_sum, lesser_at, lesser_sum}
+use Rattle.std.proofs.Common.{◌≡◌, arith, List, [], ◌∷◌, length, sum}
+use Rattle.rules.specs.Fold.{sum_to}
+use Rattle.line_totals.specs.Sums.{row_sum}
 
-pub lesser_total : (a b : List ℕ) → row_sum (five (lesser_at a b)) ≡ lesser_sum a b
-unfolding row_sum lesser_sum sum_to
-lesser_total a b = refl
+pub sum_is : (r : List ℕ) → length r ≡ 5 → sum r ≡ row_sum r
+unfolding row_sum sum_to
+sum_is [] h = absurd (omega arith)
+sum_is (a ∷ []) h = absurd (omega arith)
+sum_is (a ∷ b ∷ []) h = absurd (omega arith)
+sum_is (a ∷ b ∷ c ∷ []) h = absurd (omega arith)
+sum_is (a ∷ b ∷ c ∷ d ∷ []) h = absurd (omega arith)
+sum_is (a ∷ b ∷ c ∷ d ∷ e ∷ []) h = omega arith
+sum_is (a ∷ b ∷ c ∷ d ∷ e ∷ f ∷ r) h = absurd (omega arith)

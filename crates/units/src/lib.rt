@@ -1,11 +1,39 @@
-// Quantities and prices within document 01's limits, as read from a word, and what each case of a reading stands for: the number of a
-// refusal, and the value.
+// The kinds quantity and price: whole numbers up to document 01's limits, as read from a word.
 
 #![tactic(auto)]
 
-ghost use Rattle.std.specs.Prelude.{◌≡◌, ◌+◌, ◌≤◌, length};
-ghost use Rattle.rules.specs.Layout.{word};
-ghost use Rattle.units.specs.Kinds.{quantity_read, quantity_number, quantity_value, price_read, price_number, price_value};
+ghost use Rattle.std.specs.Prelude.{◌≡◌, ◌+◌, ◌≤◌, ℕ, length};
+ghost use Rattle.rules.specs.Layout.{word, quantity_most, price_most};
+ghost use Rattle.units.specs.Kinds.{read_within, quantity, price};
+
+use bytes_le::word_at;
+
+// A kind of numbers up to a limit.
+pub trait Kind: Sized {
+    ghost MOST: { ℕ };
+
+    const MOST: u32;
+
+    ghost of: { ℕ → Self };
+
+    // The number of this kind that is `value`.
+    fn of(value: u32) -> Self
+        requires { value ≤ MOST }
+        ensures { result ≡ of value };
+
+    // The word at byte `at`, unless it is above the limit.
+    fn read(b: &[u8], at: usize) -> Option<Self>
+        requires { at + 4 ≤ length b.now }
+        ensures { result ≡ read_within MOST of (word b.now at) }
+    {
+        let value = word_at(b, at);
+        if value <= Self::MOST {
+            Some(Self::of(value))
+        } else {
+            None
+        }
+    }
+}
 
 // whole MJ
 #[derive(Clone, Copy)]
@@ -13,46 +41,15 @@ pub struct Quantity {
     pub mj: u32,
 }
 
-// What reading a quantity finds.
-#[derive(Clone, Copy)]
-pub enum QuantityRead {
-    Within(Quantity),
-    Above,
-}
+impl Kind for Quantity {
+    ghost MOST = { quantity_most };
 
-impl Quantity {
-    pub const MOST: u32 = 200000000;
+    const MOST: u32 = 200000000;
 
-    // The word at byte `at`, unless it is above the limit.
-    pub fn read(b: &[u8], at: usize) -> QuantityRead
-        requires { at + 4 ≤ length b.now }
-        ensures { result ≡ quantity_read (word b.now at) }
-    {
-        let v = bytes_le::word_at(b, at);
-        if v <= Quantity::MOST {
-            return QuantityRead::Within(Quantity { mj: v });
-        }
-        QuantityRead::Above
-    }
-}
+    ghost of = { quantity };
 
-// The refusal n where the word is above the limit, else 0.
-pub fn quantity_refusal(read: QuantityRead, n: u32) -> u32
-    ensures { result ≡ quantity_number n read }
-{
-    match read {
-        QuantityRead::Within(_) => 0,
-        QuantityRead::Above => n,
-    }
-}
-
-// The quantity that was read, 0 where the word is above the limit.
-pub fn quantity_value(read: QuantityRead) -> u32
-    ensures { result ≡ quantity_value read }
-{
-    match read {
-        QuantityRead::Within(q) => q.mj,
-        QuantityRead::Above => 0,
+    fn of(mj: u32) -> Quantity {
+        Quantity { mj }
     }
 }
 
@@ -62,45 +59,14 @@ pub struct Price {
     pub units: u32,
 }
 
-// What reading a price finds.
-#[derive(Clone, Copy)]
-pub enum PriceRead {
-    Within(Price),
-    Above,
-}
+impl Kind for Price {
+    ghost MOST = { price_most };
 
-impl Price {
-    pub const MOST: u32 = 10000000;
+    const MOST: u32 = 10000000;
 
-    // The word at byte `at`, unless it is above the limit.
-    pub fn read(b: &[u8], at: usize) -> PriceRead
-        requires { at + 4 ≤ length b.now }
-        ensures { result ≡ price_read (word b.now at) }
-    {
-        let v = bytes_le::word_at(b, at);
-        if v <= Price::MOST {
-            return PriceRead::Within(Price { units: v });
-        }
-        PriceRead::Above
-    }
-}
+    ghost of = { price };
 
-// The refusal n where the word is above the limit, else 0.
-pub fn price_refusal(read: PriceRead, n: u32) -> u32
-    ensures { result ≡ price_number n read }
-{
-    match read {
-        PriceRead::Within(_) => 0,
-        PriceRead::Above => n,
-    }
-}
-
-// The price that was read, 0 where the word is above the limit.
-pub fn price_value(read: PriceRead) -> u32
-    ensures { result ≡ price_value read }
-{
-    match read {
-        PriceRead::Within(p) => p.units,
-        PriceRead::Above => 0,
+    fn of(units: u32) -> Price {
+        Price { units }
     }
 }

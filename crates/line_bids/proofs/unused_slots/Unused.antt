@@ -1,33 +1,37 @@
--- Refusal 10, from what the code has read.
-use Prim.Native.Nat.{ℕ, ◌+◌}
-use mathlib.Core.Path.{◌≡◌, sym, ◌∙◌, ap}
-use mathlib.Core.List.{List}
-use mathlib.Core.Bool.{false, not}
-use lib.Dec.{eqb}
+-- Refusal 10, from what the code has read: n is the bid's count, and slot j the (j - n)-th of the unused ones.
+use Rattle.std.specs.Prelude.{ℕ, ◌+◌, ◌-◌, ◌≤◌, ◌<◌, ◌≡◌, List}
+use Rattle.std.proofs.Common.{arith}
+use Rattle.rules.specs.Fold.{refuse, ◌or_else◌, first}
 use Rattle.rules.specs.Layout.{bid_count, bid_break, bid_price}
 use Rattle.rules.specs.Refusals.{unused_fault}
-use Rattle.laws.specs.Folds.{not_eq, not_ne, stops, passes, ends_at, none_at}
+use Rattle.laws.specs.Folds.{first_none, first_more, first_stop}
 
--- refusal 10 at an unused slot, with the count and the words read there
-module _ (w : List ℕ) (s i n x : ℕ) (count : n ≡ bid_count w s) (brk : x ≡ bid_break w s (n + i)) where
-  break_there : x ≡ bid_break w s (bid_count w s + i)
-  break_there = brk ∙ ap (λ (k : ℕ). bid_break w s (k + i)) count
+pub unused_begins : (w : List ℕ) (s n : ℕ) → first (unused_fault w s) (n - n) ≡ 0
+unused_begins w s n = let e : n - n ≡ 0 = omega arith in rw e (first_none (unused_fault w s))
 
-  pub unused_break_is : (x ≡ 0 → ⊥) → 10 ≡ unused_fault w s i
-  unfolding unused_fault
-  unused_break_is h = stops 9 _ _ (not_eq _ 0 (λ e. h (break_there ∙ e)))
+module _ (w : List ℕ) (s n j : ℕ) (count : n ≡ bid_count w s) (l : n ≤ j) where
+  slot : bid_count w s + (j - n) ≡ j
+  slot = omega arith
 
-module _ (w : List ℕ) (s i n x y : ℕ) (count : n ≡ bid_count w s) (brk : x ≡ bid_break w s (n + i)) (none : x ≡ 0) (prc : y ≡ bid_price w s (n + i)) where
-  price_there : y ≡ bid_price w s (bid_count w s + i)
-  price_there = prc ∙ ap (λ (k : ℕ). bid_price w s (k + i)) count
+  module _ (p : first (unused_fault w s) (j - n) ≡ 0) where
+    pub unused_none : bid_break w s j ≡ 0 → bid_price w s j ≡ 0 → first (unused_fault w s) (j + 1 - n) ≡ 0
+    unfolding unused_fault refuse ◌or_else◌
+    unused_none b q =
+        let none : unused_fault w s (j - n) ≡ 0 = rw (slot, b, q) in
+        let e : j - n + 1 ≡ j + 1 - n = omega arith in
+        rw e at (first_more (unused_fault w s) (j - n) p none)
 
-  no_break : not (eqb (bid_break w s (bid_count w s + i)) 0) ≡ false
-  no_break = not_ne _ 0 (sym (break_there w s i n x count brk) ∙ none)
+    module _ (m : j < 11) where
+      pub unused_break : (bid_break w s j ≡ 0 → ⊥) → 10 ≡ first (unused_fault w s) (11 - n)
+      unfolding unused_fault refuse ◌or_else◌
+      unused_break h =
+          let some : unused_fault w s (j - n) ≡ 10 = rw slot (grind arith) in
+          grind (arith, first_stop, some)
 
-  pub unused_price_is : (y ≡ 0 → ⊥) → 10 ≡ unused_fault w s i
-  unfolding unused_fault
-  unused_price_is h = passes 10 _ _ _ no_break (ends_at 10 _ (not_eq _ 0 (λ e. h (price_there ∙ e))))
+      pub unused_price : (bid_price w s j ≡ 0 → ⊥) → 10 ≡ first (unused_fault w s) (11 - n)
+      unfolding unused_fault refuse ◌or_else◌
+      unused_price h =
+          let some : unused_fault w s (j - n) ≡ 10 = rw slot (grind arith) in
+          grind (arith, first_stop, some)
 
-  pub unused_none_is : y ≡ 0 → 0 ≡ unused_fault w s i
-  unfolding unused_fault
-  unused_none_is h = passes 10 _ _ _ no_break (none_at 10 _ (not_ne _ 0 (sym price_there ∙ h)))
+pub ruleset unused_cases = (unused_begins, unused_none, unused_break, unused_price)

@@ -1,19 +1,20 @@
 -- `line_quantities::in_force::places_for` meets its contract.
-use Prim.Native.Nat.{◌-◌, ◌≤◌}
-use mathlib.Core.Path.{◌≡◌, refl}
-use native.Mathlib.Omega.{arith}
-use borrow.Author.Rules.{rules}
-use Rattle.line_quantities.specs.Highest.{highest_places, places_none, places_all}
+use Rattle.std.proofs.Common.{rules, ◌∙◌, sym}
+use Rattle.line_quantities.specs.Highest.{places_none, places_other, places_own, held_most}
 use Rattle.line_quantities.proofs.in_force.places_for.Goals as goal
+use Rattle.line_quantities.proofs.in_force.places_for.Goals.{then-line-k, else-line-k}
 
 pub loop-i-init : goal.loop-i-init
-loop-i-init c = (omega arith, places_none _ _ _ _ refl)
+loop-i-init c = places_none _ _ _
 
-pub places_after-places-requires : goal.places_after-places-requires
-places_after-places-requires c = (omega arith, c.loop-i.invariant.1)
+pub places_with-after-requires : goal.places_with-after-requires
+places_with-after-requires c = (search rules, held_most _ _ _ _ _ c.loop-i.invariant)
 
 pub loop-i-preserved : goal.loop-i-preserved
-loop-i-preserved c = (omega arith, c.places_after-places.ensures)
-
-pub returns : goal.returns
-returns c = places_all _ _ _ _ _ _ c.loop-i.invariant.1 c.loop-i.invariant.0 c.loop-i-test.false
+loop-i-preserved c =
+    elim c.if-line-k.branch [
+      | then-line-k w ↦ w.places-is ∙ w.places_with-after.ensures
+          ∙ places_own _ _ _ _ _ c.loop-i.invariant (sym c.line.ensures ∙ w.if-line-k.true)
+      | else-line-k w ↦ w.places-is ∙ c.loop-i.invariant
+          ∙ places_other _ _ _ _ (λ e. w.if-line-k.false (c.line.ensures ∙ e))
+    ]

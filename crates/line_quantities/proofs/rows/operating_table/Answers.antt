@@ -1,5 +1,4 @@
 -- `line_quantities::rows::operating_table` meets its contract.
-use borrow.Author.Rules.{rules}
 use Rattle.line_quantities.proofs.rows.operating_table.Goals as goal
 
 pub returns : goal.returns

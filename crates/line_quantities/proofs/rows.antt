@@ -1,2 +1,0 @@
--- Laws that proofs of functions cite.
-pub mod Pricing
