@@ -27,14 +27,15 @@ pub fault_line : (w : List ℕ) → length w ≡ 660 → cut_fault w ≡ line_fa
 unfolding cut_fault
 fault_line w h = rw (eq-eqb (length w) 660 h, refuse_false) (or_else_zero (line_fault w))
 
-pub cut_refused_lem : (w : List ℕ) {n : ℕ} {r : Cut} → length w ≡ 660 → n ≡ line_fault w → (n ≡ 0 → ⊥) → r ≡ cut_refused n → r ≡ cut_answer w
+-- `l` is the line as an array
+pub cut_refused_lem : {w l : List ℕ} {n : ℕ} {r : Cut} → IsWholeChunk w l 660 → n ≡ line_fault l → (n ≡ 0 → ⊥) → r ≡ cut_refused n → r ≡ cut_answer w
 unfolding cut_answer
-cut_refused_lem w {n} h e z p =
-    let f = fault_line w h in
-    rw (f, ← e, ne_eqb n 0 z) p
+cut_refused_lem {w} {l} {n} h e z p =
+    let f : cut_fault w ≡ n = fault_line w (long h) ∙ ap line_fault (same h) ∙ sym e in
+    rw (f, ne_eqb n 0 z) p
 
-pub cut_line : (w : List ℕ) {n : ℕ} → length w ≡ 660 → n ≡ line_fault w → n ≡ 0 → Line w
-cut_line w h e z = record { long = h; accepted = accepted_line w (sym e ∙ z) }
+pub cut_line : {w l : List ℕ} → IsWholeChunk w l 660 → 0 ≡ line_fault l → Line l
+cut_line h e = record { long = rw (same h) at (long h); accepted = accepted_line _ (sym e) }
 
-pub cut_whole : (w : List ℕ) {n : ℕ} {r : Cut} → length w ≡ 660 → n ≡ line_fault w → n ≡ 0 → r ≡ cut_of w → r ≡ cut_answer w
-cut_whole w h e z p = p ∙ sym (answer_whole w (fault_line w h ∙ sym e ∙ z))
+pub cut_whole : {w l : List ℕ} {r : Cut} → IsWholeChunk w l 660 → 0 ≡ line_fault l → r ≡ cut_of l → r ≡ cut_answer w
+cut_whole {w} h e p = p ∙ ap cut_of (sym (same h)) ∙ sym (answer_whole w (fault_line w (long h) ∙ ap line_fault (same h) ∙ sym e))

@@ -8,23 +8,25 @@ pub mod steps;
 
 ghost use Rattle.std.specs.Prelude.{◌≡◌};
 ghost use Rattle.rules.specs.Cutting.{cut_refused, cut_answer};
+ghost use Rattle.refusals.specs.Numbers.{number};
 
 use crate::steps::steps;
-use layout::header::LINE_BYTES;
-use line::line_number;
+use line::check_line;
+use refusals::Refusal;
 use rules::Cut;
 
 // A refused line's answer: the number and zeros.
-fn refused(number: u32) -> Cut
-    ensures { result ≡ cut_refused number }
+#[tactic(auto, unfolding(rules::specs::Cutting::cut_refused))]
+fn refused(refusal: Refusal) -> Cut
+    ensures { result ≡ cut_refused (number refusal) }
 {
     Cut {
-        flags: [0u64; 5],
-        number,
+        flags: [0; 5],
+        number: u32::from(refusal),
         count: 0,
-        missing: [0u32; 5],
-        ends: [0u32; 56],
-        prices: [0u32; 280],
+        missing: [0; 5],
+        ends: [0; 56],
+        prices: [0; 280],
         reserved: 0,
     }
 }
@@ -33,12 +35,11 @@ fn refused(number: u32) -> Cut
 pub fn cut(line: &[u8]) -> Cut
     ensures { result ≡ cut_answer line.now }
 {
-    if line.len() != LINE_BYTES {
-        return refused(18);
+    let Some(line) = line.as_array() else {
+        return refused(Refusal::LineLength);
+    };
+    match check_line(line) {
+        Ok(()) => steps(line),
+        Err(refusal) => refused(refusal),
     }
-    let number = line_number(line);
-    if number != 0 {
-        return refused(number);
-    }
-    steps(line)
 }

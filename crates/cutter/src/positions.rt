@@ -1,14 +1,16 @@
 // Where the sweep over a line's steps stands, so that it can be taken up there, and steps passed over that nothing is asked of but their
 // number.
-ghost use Rattle.std.specs.Prelude.{◌≡◌, ◌&&◌, ◌+◌, ◌≤◌, ltb, leb};
+ghost use Rattle.std.specs.Prelude.{◌≡◌, ◌+◌, ◌<◌, ◌≤◌};
+ghost use Rattle.std.specs.Option.{MatchOption};
 ghost use Rattle.rules.specs.Layout.{quantity_most};
-ghost use Rattle.cutter_cursors.specs.Sweep.{Line, first_places, far};
+ghost use Rattle.cutter_cursors.specs.Sweep.{Line as Accepted, first_places, far};
 ghost use Rattle.cutter.specs.Positions.{SweptAt, Skipped};
 
 use cutter_cursors::cursors::{Sweep, next_gap, passed, start};
+use layout::header::Line;
 
 // A gap that no break above an end has.
-pub const FAR: u32 = 2147483648;
+const FAR: u32 = 1 << 31;
 
 // Before step `step`, counted from 0: its lower end and the gap from there to its upper end, FAR or more after the last step.
 #[derive(Clone, Copy)]
@@ -17,6 +19,43 @@ pub struct Position {
     pub lower: u32,
     pub gap: u32,
     pub step: usize,
+}
+
+impl Position {
+    // The upper end of the next step; none after the last.
+    pub fn next_end(self) -> Option<u32>
+        requires { self.lower ≤ quantity_most }
+        ensures { MatchOption result (far ≤ self.gap) (λ end. (self.gap < far) × (end ≡ self.lower + 1 + self.gap)) }
+    {
+        if self.gap < FAR {
+            Some(self.lower + 1 + self.gap)
+        } else {
+            None
+        }
+    }
+
+    // The same where it is at or below u.
+    pub fn end_by(self, u: u32) -> Option<u32>
+        requires { self.lower ≤ quantity_most }
+        ensures { MatchOption result (self.gap < far → u < self.lower + 1 + self.gap)
+            (λ end. (self.gap < far) × (end ≡ self.lower + 1 + self.gap) × (end ≤ u)) }
+    {
+        self.next_end().filter(|end| *end <= u)
+    }
+
+    // After the next step, which ends at `end`.
+    pub fn passed(self, line: &Line, end: u32) -> Position
+        requires { SweptAt line.now self × (self.gap < far) × (end ≡ self.lower + 1 + self.gap) }
+        ensures { SweptAt line.now result × (result.step ≡ self.step + 1) × (result.lower ≡ end) }
+    {
+        let places = passed(line, self.places, end);
+        Position {
+            places,
+            lower: end,
+            gap: next_gap(line, places, end),
+            step: self.step + 1,
+        }
+    }
 }
 
 // No position: what a place holds before one is put there.
@@ -32,51 +71,28 @@ pub fn no_position() -> Position
 }
 
 // Before the first step.
-pub fn first_position(line: &[u8]) -> Position
-    requires { Line line.now }
+pub fn first_position(line: &Line) -> Position
+    requires { Accepted line.now }
     ensures { SweptAt line.now result × (result.step ≡ 0) }
 {
     let places = start();
-    let gap = next_gap(line, places, 0);
     Position {
         places,
         lower: 0,
-        gap,
+        gap: next_gap(line, places, 0),
         step: 0,
     }
 }
 
-// Whether there is a next step, and it ends at or below u.
-fn ends_by(lower: u32, gap: u32, u: u32) -> bool
-    requires { lower ≤ quantity_most }
-    ensures { result ≡ (ltb gap far && leb (lower + 1 + gap) u) }
-{
-    if FAR <= gap {
-        return false;
-    }
-    lower + 1 + gap <= u
-}
-
-// After the steps from p on that end at or below u. The loop maintains that the sweep stands before step `step`, and that those from p on
+// After the steps from p on that end at or below u. The loop maintains that the sweep stands at a position, and that the steps from p on
 // before it end at or below u.
-pub fn skip_to(line: &[u8], p: Position, u: u32) -> Position
-    requires { Line line.now × SweptAt line.now p }
+pub fn skip_to(line: &Line, p: Position, u: u32) -> Position
+    requires { Accepted line.now × SweptAt line.now p }
     ensures { Skipped line.now p u result }
 {
-    let mut places = p.places;
-    let mut lower = p.lower;
-    let mut gap = p.gap;
-    let mut step = p.step;
-    while ends_by(lower, gap, u) {
-        lower = lower + 1 + gap;
-        places = passed(line, places, lower);
-        gap = next_gap(line, places, lower);
-        step += 1;
+    let mut at = p;
+    while let Some(end) = at.end_by(u) {
+        at = at.passed(line, end);
     }
-    Position {
-        places,
-        lower,
-        gap,
-        step,
-    }
+    at
 }

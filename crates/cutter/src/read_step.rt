@@ -3,21 +3,19 @@ ghost use Rattle.std.specs.Prelude.{◌≡◌, ◌<◌};
 ghost use Rattle.rules.specs.Fold.{five};
 ghost use Rattle.cutter.specs.Arrays.{bit_at, price_in, flag_in};
 
+use std::array::from_fn;
+
 // The prices of step j.
+#[tactic(auto, unfolding(crate::specs::Arrays::price_in))]
 pub fn price_row(prices: &[u32; 280], j: usize) -> [u32; 5]
     requires { j < 56 }
     ensures { result ≡ five (price_in prices.now j) }
 {
-    [
-        prices[j],
-        prices[56 + j],
-        prices[112 + j],
-        prices[168 + j],
-        prices[224 + j],
-    ]
+    from_fn(|s| prices[56 * s + j])
 }
 
 // Bit j of a word of flags.
+#[tactic(auto, using(crate::proofs::read_step::Laws::bit_shift))]
 fn flag_at(word: u64, j: usize) -> u32
     requires { j < 56 }
     ensures { result ≡ bit_at word j }
@@ -26,15 +24,10 @@ fn flag_at(word: u64, j: usize) -> u32
 }
 
 // The flags of step j.
+#[tactic(auto, unfolding(crate::specs::Arrays::flag_in))]
 pub fn flag_row(words: [u64; 5], j: usize) -> [u32; 5]
     requires { j < 56 }
     ensures { result ≡ five (flag_in words j) }
 {
-    [
-        flag_at(words[0], j),
-        flag_at(words[1], j),
-        flag_at(words[2], j),
-        flag_at(words[3], j),
-        flag_at(words[4], j),
-    ]
+    words.map(|word| flag_at(word, j))
 }

@@ -2,8 +2,10 @@
 use Rattle.std.specs.Prelude.{◌≡◌, ℕ, zero, suc, ◌+◌, ◌-◌, ◌<◌, ◌≤◌, min, max, List}
 use Rattle.std.proofs.Common.{arith, ◌∙◌, sym, ap, lt-ltb, le-ltb}
 use Rattle.std.proofs.Math.Decide.{dec_lt}
+use Rattle.rules.specs.Fold.{five}
 use Rattle.rules.specs.Layout.{quantity_most, hedge, bid_count, bid_break}
 use Rattle.rules.specs.Steps.{bid_step}
+use Rattle.laws.specs.Folds.{at_five}
 use Rattle.laws.specs.Accepted.{AcceptedBid}
 use Rattle.cutter_cursors.specs.Search.{bid_first}
 use Rattle.cutter_cursors.specs.Sweep.{SweepAt, place_of, sweep_of, far, gap_of, break_gap, least_to, next_gap}
@@ -93,10 +95,8 @@ place_stays w e g s l =
 sweep_same : (w : List ℕ) (e : ℕ) → sweep_of w (suc e) ≡ sweep_of w (e + 1 + next_gap w e)
 unfolding sweep_of next_gap
 sweep_same w e =
-    let p : (s : ℕ) → s < 5 → place_of w s (suc e) ≡ place_of w s (e + 1 + next_gap w e) =
-    λ s l. place_stays w e (next_gap w e) s (least_term (gap_of (hedge w) e) 5 (break_gap w e) s l)
-    in
-    sweep_is w (e + 1 + next_gap w e) (p 0 (omega arith)) (p 1 (omega arith)) (p 2 (omega arith)) (p 3 (omega arith)) (p 4 (omega arith))
+    sweep_is w (e + 1 + next_gap w e) {l = five (λ s. place_of w s (suc e))} (omega arith)
+    (λ s l. at_five (λ r. place_of w r (suc e)) 0 s l ∙ place_stays w e (next_gap w e) s (least_term (gap_of (hedge w) e) 5 (break_gap w e) s l))
 
 -- so at the next end all five do
 pub sweep_stays : {w : List ℕ} {places : Sweep} (e : ℕ) {g : ℕ} → SweepAt w places (suc e) → g ≡ next_gap w e → SweepAt w places (e + 1 + g)

@@ -1,14 +1,14 @@
 -- Laws of where a cursor stands, from what acceptance says of the bid.
-use Rattle.std.specs.Prelude.{◌≡◌, ℕ, suc, ◌+◌, ◌-◌, ◌<◌, ◌≤◌, List, length, ◌==◌}
+use Rattle.std.specs.Prelude.{◌≡◌, ℕ, suc, ◌+◌, ◌-◌, ◌<◌, ◌≤◌, List, [], ◌∷◌, length, get_or, ◌==◌}
 use native.Mathlib.Omega.{arith}
 use Rattle.std.proofs.Math.Decide.{dec_lt}
 use Rattle.std.proofs.Math.Path.{refl}
 use Rattle.std.proofs.Common.{◌∙◌, ap, subst, eq-eqb, ne_eqb}
-use Rattle.rules.specs.Fold.{before}
+use Rattle.rules.specs.Fold.{before, five, at}
 use Rattle.rules.specs.Layout.{quantity_most, hedge, bid_count, bid_break}
 use Rattle.rules.specs.Steps.{bid_step, bid_most, greatest_break}
 use Rattle.rules.specs.Payments.{bit}
-use Rattle.laws.specs.Folds.{most_least}
+use Rattle.laws.specs.Folds.{most_least, at_five, same_five}
 use Rattle.laws.specs.Accepted.{AcceptedBid, AcceptedLine}
 use Rattle.cutter_cursors.specs.Search.{First, bid_first, step_is, first_stays, first_moves}
 use Rattle.cutter_cursors.specs.Sweep.{Line, Standing, SweepAt, place_of, sweep_of, first_places}
@@ -66,39 +66,34 @@ module _ {w : List ℕ} {s at u : ℕ} (h : Standing w s at u) where
   place_most = let p = h.place in let c = of_bid.count_most in omega arith
 
   -- whose words can be read
-  pub place_read : (length w ≡ 660) × (s < 5) × (at - 1 < 11)
-  place_read = let a = place_least in let b = place_most in (h.line.long, h.schedule, omega arith)
+  pub place_read : (s < 5) × (at - 1 < 11)
+  place_read = let a = place_least in let b = place_most in (h.schedule, omega arith)
+
+-- of five cursors each
+pub standing : {w : List ℕ} {places : Sweep} {u : ℕ} → SweepAt w places u → {s : ℕ} → s < 5 → Standing w s (at places.at s) u
+unfolding sweep_of
+standing {w} {places} {u} h {s} l =
+    record {
+      line = h.line;
+      schedule = l;
+      above = h.above;
+      place = ap (λ (z : Sweep). at z.at s) h.same ∙ at_five (λ r. place_of w r u) 0 s l;
+    }
+
+-- a list of five values, from each
+pub five_of : {A : Type 0} (d : A) (f : ℕ → A) (l : List A) → length l ≡ 5 → ((s : ℕ) → s < 5 → get_or l s d ≡ f s) → l ≡ five f
+five_of z f [] e h = absurd (omega arith)
+five_of z f (a ∷ []) e h = absurd (omega arith)
+five_of z f (a ∷ b ∷ []) e h = absurd (omega arith)
+five_of z f (a ∷ b ∷ c ∷ []) e h = absurd (omega arith)
+five_of z f (a ∷ b ∷ c ∷ d ∷ []) e h = absurd (omega arith)
+five_of z f (a ∷ b ∷ c ∷ d ∷ g ∷ []) e h = same_five (h 0 (omega arith)) (h 1 (omega arith)) (h 2 (omega arith)) (h 3 (omega arith)) (h 4 (omega arith))
+five_of z f (a ∷ b ∷ c ∷ d ∷ g ∷ x ∷ l) e h = absurd (omega arith)
 
 -- five places that are those at a step which ends at u
-pub sweep_is : (w : List ℕ) (u : ℕ) {a b c d e : ℕ} → a ≡ place_of w 0 u → b ≡ place_of w 1 u → c ≡ place_of w 2 u → d ≡ place_of w 3 u → e ≡ place_of w 4 u
-    → ◌≡◌ {A = Sweep} (record { first = a; second = b; third = c; fourth = d; fifth = e }) (sweep_of w u)
+pub sweep_is : (w : List ℕ) (u : ℕ) {l : List ℕ} → length l ≡ 5 → ((s : ℕ) → s < 5 → at l s ≡ place_of w s u) → ◌≡◌ {A = Sweep} (record { at = l }) (sweep_of w u)
 unfolding sweep_of
-sweep_is w u a b c d e = λ i. record { first = a i; second = b i; third = c i; fourth = d i; fifth = e i }
-
--- and each of them
-module _ {w : List ℕ} {places : Sweep} {u : ℕ} (h : SweepAt w places u) where
-  one : (of : Sweep → ℕ) (s : ℕ) → s < 5 → of (sweep_of w u) ≡ place_of w s u → Standing w s (of places) u
-  one of s l e = record { line = h.line; schedule = l; above = h.above; place = ap of h.same ∙ e }
-
-  pub standing_first : Standing w 0 places.first u
-  unfolding sweep_of
-  standing_first = one (λ z. z.first) 0 (omega arith) refl
-
-  pub standing_second : Standing w 1 places.second u
-  unfolding sweep_of
-  standing_second = one (λ z. z.second) 1 (omega arith) refl
-
-  pub standing_third : Standing w 2 places.third u
-  unfolding sweep_of
-  standing_third = one (λ z. z.third) 2 (omega arith) refl
-
-  pub standing_fourth : Standing w 3 places.fourth u
-  unfolding sweep_of
-  standing_fourth = one (λ z. z.fourth) 3 (omega arith) refl
-
-  pub standing_fifth : Standing w 4 places.fifth u
-  unfolding sweep_of
-  standing_fifth = one (λ z. z.fifth) 4 (omega arith) refl
+sweep_is w u {l} e h = ap (λ (z : List ℕ). record { at = z }) (five_of 0 (λ s. place_of w s u) l e h)
 
 -- breaks rise
 pub rises_next : {w : List ℕ} {s : ℕ} → AcceptedBid w s → (k : ℕ) → suc k < bid_count w s → bid_break w s k < bid_break w s (suc k)
@@ -140,6 +135,4 @@ first_place {w} {s} b =
 
 pub first_places_lem : {w : List ℕ} → Line w → first_places ≡ sweep_of w 1
 unfolding first_places
-first_places_lem {w} h =
-    let p : (s : ℕ) → s < 5 → 1 ≡ place_of w s 1 = λ s l. first_place (h.accepted.bids s l) in
-    sweep_is w 1 (p 0 (omega arith)) (p 1 (omega arith)) (p 2 (omega arith)) (p 3 (omega arith)) (p 4 (omega arith))
+first_places_lem {w} h = sweep_is w 1 refl (λ s l. at_five (λ r. 1) 0 s l ∙ first_place (h.accepted.bids s l))

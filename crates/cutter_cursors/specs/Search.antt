@@ -1,8 +1,10 @@
--- Laws of "the first bid step whose break is at least the upper end", over any n breaks `br`.
-use Rattle.std.specs.Prelude.{◌≡◌, ℕ, zero, suc, ◌+◌, ◌<◌, ◌≤◌, List}
+-- Laws of "the first bid step whose break is at least the upper end", over any n breaks `br`, and of a test as a number.
+use Rattle.std.specs.Prelude.{◌≡◌, refl, Bool, true, false, ℕ, zero, suc, ◌+◌, ◌<◌, ◌≤◌, List}
 use Rattle.std.proofs.Common.{arith, subst, le-leb}
 use Rattle.std.proofs.Math.Decide.{dec_lt, dec_le}
 use Rattle.std.proofs.lemmas.Bool.{lt-leb}
+use mir.Val.{bool_byte}
+use Rattle.rules.specs.Payments.{bit}
 use Rattle.rules.specs.Layout.{bid_count, bid_break}
 use Rattle.rules.specs.Steps.{step_from, bid_step}
 
@@ -99,3 +101,8 @@ first_moves {br} {v} {n} {j} p l h rise =
 pub bid_first : (w : List ℕ) (s u : ℕ) → First (bid_break w s) u (bid_count w s) (bid_step w s u)
 unfolding bid_step
 bid_first w s u = step_first (bid_break w s) u (bid_count w s)
+
+-- a test as a number, as the code converts it
+pub bit_is : (t : Bool) → bool_byte t ≡ bit t
+bit_is true = refl
+bit_is false = refl

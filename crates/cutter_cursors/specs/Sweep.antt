@@ -1,5 +1,6 @@
 -- Where the sweep stands at a step, as functions of the line and the step's upper end, and what each of its moves gives.
-use Rattle.std.specs.Prelude.{◌≡◌, ℕ, zero, suc, ◌+◌, ◌-◌, ◌<◌, min, max, cond, List, length, nat_lt}
+use Rattle.std.specs.Prelude.{◌≡◌, ℕ, zero, suc, ◌+◌, ◌-◌, ◌<◌, min, max, cond, List, length, replicate, nat_lt}
+use Rattle.rules.specs.Fold.{five}
 use Rattle.rules.specs.Layout.{hedge, bid_count, bid_break}
 use Rattle.rules.specs.Steps.{bid_step}
 use Rattle.laws.specs.Accepted.{AcceptedLine}
@@ -21,12 +22,11 @@ place_of w s u = max 1 (min (suc (bid_step w s u)) (bid_count w s))
 
 -- all of them
 unfoldable pub sweep_of : List ℕ → ℕ → Sweep
-sweep_of w u =
-    record { first = place_of w 0 u; second = place_of w 1 u; third = place_of w 2 u; fourth = place_of w 3 u; fifth = place_of w 4 u }
+sweep_of w u = record { at = five (λ s. place_of w s u) }
 
 -- before the first end
 unfoldable pub first_places : Sweep
-first_places = record { first = 1; second = 1; third = 1; fourth = 1; fifth = 1 }
+first_places = record { at = replicate 5 1 }
 
 -- on an accepted line, `at` is the place of the cursor of schedule s at a step which ends at u
 pub record Standing (w : List ℕ) (s at u : ℕ) : Type 0 where

@@ -1,30 +1,28 @@
 -- What is written of a step, as each proof wants it: from the callees' results to the definition of the contract.
 use Prim.Native.Nat.{ℕ, zero, suc, ◌+◌, ◌*◌, ◌-◌, ◌^◌, ◌%◌, ◌≤◌, ◌<◌}
 use native.Mathlib.Nat.{one-mul}
+use native.Mathlib.Numerals.{add-one}
 use native.Mathlib.Omega.{arith}
 use mathlib.Core.Path.{◌≡◌, refl, sym, ◌∙◌, ap}
-use mathlib.Core.List.{List, [], ◌∷◌}
-use lib.ListN.{set}
+use mathlib.Core.List.{List}
+use lib.ListN.{set, get_or}
 use lib.Dec.{ltb}
 use lib.Pow.{pow_mono, shl_exact}
+use Rattle.rules.specs.Fold.{five, at}
 use Rattle.rules.specs.Layout.{word, bid_count, bid_break}
 use Rattle.rules.specs.Steps.{source, price, flag}
 use Rattle.rules.specs.Payments.{bit}
+use Rattle.laws.specs.Folds.{at_five}
 use Rattle.laws.specs.Sources.{source_own, source_pulled, nearest}
 use Rattle.cutter_cursors.specs.Sweep.{Line, Standing, place_of}
 use Rattle.cutter_cursors.specs.Places.{of_bid}
-use Rattle.cutter_prices.specs.Step.{before_price, slot_of, slots_of, step_price, step_rows, put_to, prices_put, missing_with, run_word}
+use Rattle.cutter_prices.specs.Step.{before_price, slot_of, slots_of, step_price, put_to, run_word}
 use Rattle.cutter_prices.specs.Rule.{flag_most, flag_place}
 use Rattle.cutter_prices.specs.Slots.{slot_own, slot_pulled, slot_most, price_slot}
 use Rattle.cutter_prices.specs.declared.StepPrice.{StepPrice}
-use Rattle.cutter_prices.specs.declared.StepRows.{StepRows}
 use Rattle.cutter_prices.specs.declared.Slots.{Slots}
-use Rattle.cutter_prices.specs.declared.Missing.{Missing}
 
 -- where the prices of a schedule stand, from what was read
-pub slot_first : {w : List ℕ} → Line w → {r : ℕ} → r ≡ before_price 0 0 → r ≡ slot_of w 0
-slot_first {w} h q = let c = (h.accepted.bids 0 (omega arith)).count_first refl in q ∙ sym (slot_own w 0 (λ e. omega arith))
-
 pub slot_some : (w : List ℕ) (s : ℕ) {n r : ℕ} → n ≡ bid_count w s → (n ≡ 0 → ⊥) → r ≡ before_price s 0 → r ≡ slot_of w s
 slot_some w s e z q = q ∙ sym (slot_own w s (λ x. z (e ∙ x)))
 
@@ -53,11 +51,6 @@ count_fits h s l e = let m = (h.accepted.bids s l).count_most in omega arith
 pub count_there : {w : List ℕ} → Line w → (s : ℕ) → s < 5 → {r c : ℕ} → r ≡ source w s → c ≡ bid_count w r → 0 < c
 count_there {w} h s l e f = let n = (nearest w h.accepted s l).some in let q = ap (bid_count w) e in omega arith
 
-pub slots_are : (w : List ℕ) {a b c d e : ℕ} → a ≡ slot_of w 0 → b ≡ slot_of w 1 → c ≡ slot_of w 2 → d ≡ slot_of w 3 → e ≡ slot_of w 4
-    → ◌≡◌ {A = Slots} (record { first = a; second = b; third = c; fourth = d; fifth = e }) (slots_of w)
-unfolding slots_of
-slots_are w a b c d e = λ i. record { first = a i; second = b i; third = c i; fourth = d i; fifth = e i }
-
 -- what the slot and the cursor give is the step's price and flag
 pub slot_read : {w : List ℕ} {s at u slot : ℕ} → Standing w s at u → slot ≡ slot_of w s → slot + 4 * at ≤ 476
 slot_read {w} {s} {at} {u} h e =
@@ -77,55 +70,6 @@ step_price_is {w} {s} {at} {u} {slot} h q e g f =
           (f ∙ ap (λ (x : ℕ). bit (ltb x u)) (g ∙ ap (λ (x : ℕ). bid_break w s (x - 1)) h.place) ∙ flag_place (of_bid h) u h.above) i;
     }
 
--- each schedule's slot among the five
-module _ (w : List ℕ) {z : Slots} (h : z ≡ slots_of w) where
-  pub slot_of_first : z.first ≡ slot_of w 0
-  unfolding slots_of
-  slot_of_first = ap (λ (x : Slots). x.first) h
-
-  pub slot_of_second : z.second ≡ slot_of w 1
-  unfolding slots_of
-  slot_of_second = ap (λ (x : Slots). x.second) h
-
-  pub slot_of_third : z.third ≡ slot_of w 2
-  unfolding slots_of
-  slot_of_third = ap (λ (x : Slots). x.third) h
-
-  pub slot_of_fourth : z.fourth ≡ slot_of w 3
-  unfolding slots_of
-  slot_of_fourth = ap (λ (x : Slots). x.fourth) h
-
-  pub slot_of_fifth : z.fifth ≡ slot_of w 4
-  unfolding slots_of
-  slot_of_fifth = ap (λ (x : Slots). x.fifth) h
-
-pub price_of : (w : List ℕ) (s u : ℕ) {r : StepPrice} → r ≡ step_price w s u → r.price ≡ price w s u
-unfolding step_price
-price_of w s u e = ap (λ (r : StepPrice). r.price) e
-
-pub flag_of : (w : List ℕ) (s u : ℕ) {f : ℕ} {r : StepPrice} → r ≡ step_price w s u → f ≡ r.flag → f ≡ flag w s u
-unfolding step_price
-flag_of w s u e g = g ∙ ap (λ (r : StepPrice). r.flag) e
-
--- an answered flag is at most 1
-pub flag_fits : (w : List ℕ) (s u : ℕ) {f : ℕ} → f ≡ flag w s u → f ≤ 1
-flag_fits w s u e = let m = flag_most w s u in omega arith
-
-pub missing_is : (w : List ℕ) (u : ℕ) (m : Missing) {a b c d e : ℕ} → a ≡ flag w 0 u → b ≡ flag w 1 u → c ≡ flag w 2 u → d ≡ flag w 3 u → e ≡ flag w 4 u
-    → ◌≡◌ {A = Missing}
-    (record { first = m.first + a; second = m.second + b; third = m.third + c; fourth = m.fourth + d; fifth = m.fifth + e })
-    (missing_with w u m)
-unfolding missing_with
-missing_is w u m a b c d e =
-    λ i.
-    record { first = m.first + a i; second = m.second + b i; third = m.third + c i; fourth = m.fourth + d i; fifth = m.fifth + e i }
-
-pub prices_put_lem : (w l : List ℕ) (u n : ℕ) {a b c d e : List ℕ} → a ≡ set l (56 * 0 + n) (price w 0 u) → b ≡ set a (56 * 1 + n) (price w 1 u)
-    → c ≡ set b (56 * 2 + n) (price w 2 u) → d ≡ set c (56 * 3 + n) (price w 3 u) → e ≡ set d (56 * 4 + n) (price w 4 u)
-    → e ≡ prices_put w l u n
-unfolding prices_put put_to
-prices_put_lem w l u n a b c d e = rw (e, d, c, b, a)
-
 -- a word of flags
 one_shifted : (n : ℕ) → n ≤ 56 → (1 * 2 ^ n) % 2 ^ 64 ≡ 2 ^ n
 one_shifted n h = shl_exact 1 n 64 (omega arith) (omega arith) ∙ one-mul (2 ^ n)
@@ -137,13 +81,26 @@ pub run_is : (n m : ℕ) → n ≤ 56 → (1 * 2 ^ n) % 2 ^ 64 - (1 * 2 ^ (n - m
 unfolding run_word
 run_is n m h = rw (one_shifted n h, one_shifted (n - m) (omega arith))
 
-pub words_are : (n : ℕ) (m : Missing) {a b c d e : ℕ} → a ≡ run_word n m.first → b ≡ run_word n m.second → c ≡ run_word n m.third
-    → d ≡ run_word n m.fourth → e ≡ run_word n m.fifth
-    → (a ∷ b ∷ c ∷ d ∷ e ∷ []) ≡ (run_word n m.first ∷ run_word n m.second ∷ run_word n m.third ∷ run_word n m.fourth ∷ run_word n m.fifth ∷ [])
-words_are n m a b c d e = λ i. a i ∷ b i ∷ c i ∷ d i ∷ e i ∷ []
+-- each schedule's slot among the five
+pub slot_at : (w : List ℕ) {z : Slots} → z ≡ slots_of w → {s : ℕ} → s < 5 → at z.byte s ≡ slot_of w s
+unfolding slots_of
+slot_at w h {s} l = ap (λ (x : Slots). at x.byte s) h ∙ at_five (slot_of w) 0 s l
 
--- the five schedules' prices and flags
-pub rows_are : (w : List ℕ) (u : ℕ) {a b c d e : StepPrice} → a ≡ step_price w 0 u → b ≡ step_price w 1 u → c ≡ step_price w 2 u → d ≡ step_price w 3 u → e ≡ step_price w 4 u
-    → ◌≡◌ {A = StepRows} (record { price = a.price ∷ b.price ∷ c.price ∷ d.price ∷ e.price ∷ []; flag = a.flag ∷ b.flag ∷ c.flag ∷ d.flag ∷ e.flag ∷ [] }) (step_rows w u)
-unfolding step_rows step_price
-rows_are w u a b c d e = rw (a, b, c, d, e)
+-- the price and the flag of a schedule among the five steps
+module _ (w : List ℕ) (u : ℕ) {l : List StepPrice} (h : l ≡ five (λ s. step_price w s u)) (d : StepPrice) {s : ℕ} (m : s < 5) where
+  pub price_at : (get_or l s d).price ≡ price w s u
+  unfolding step_price
+  price_at = ap (λ (x : List StepPrice). (get_or x s d).price) h ∙ ap (λ (x : StepPrice). x.price) (at_five (λ r. step_price w r u) d s m)
+
+  pub flag_at : (get_or l s d).flag ≡ flag w s u
+  unfolding step_price
+  flag_at = ap (λ (x : List StepPrice). (get_or x s d).flag) h ∙ ap (λ (x : StepPrice). x.flag) (at_five (λ r. step_price w r u) d s m)
+
+  -- which is at most 1
+  pub flag_fits : (get_or l s d).flag ≤ 1
+  flag_fits = let m = flag_most w s u in let e = flag_at in omega arith
+
+-- one more row of prices
+pub put_more : (l k : List ℕ) (n s : ℕ) (v : ℕ → ℕ) {x : ℕ} → l ≡ put_to s k n v → x ≡ v s → set l (56 * s + n) x ≡ put_to (s + 1) k n v
+unfolding put_to
+put_more l k n s v e f = rw (add-one s, e, f) refl

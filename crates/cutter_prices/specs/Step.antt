@@ -1,6 +1,6 @@
 -- What the cutter writes of a step, by the definitions of `price` and `flag`.
-use Rattle.std.specs.Prelude.{ℕ, zero, suc, ◌+◌, ◌*◌, ◌-◌, ◌^◌, ◌≤◌, cond, List, set, eqb}
-use Rattle.rules.specs.Fold.{five}
+use Rattle.std.specs.Prelude.{ℕ, zero, suc, ◌+◌, ◌*◌, ◌-◌, ◌^◌, ◌≤◌, ◌<◌, cond, List, set, eqb}
+use Rattle.rules.specs.Fold.{five, at}
 use Rattle.rules.specs.Layout.{bid_word, bid_count}
 use Rattle.rules.specs.Steps.{source, price, flag}
 use Rattle.cutter_prices.specs.declared.StepPrice.{StepPrice}
@@ -18,7 +18,7 @@ unfoldable pub slot_of : List ℕ → ℕ → ℕ
 slot_of w s = cond (eqb (bid_count w s) 0) (before_price (source w s) (bid_count w (source w s) - 1)) (before_price s 0)
 
 unfoldable pub slots_of : List ℕ → Slots
-slots_of w = record { first = slot_of w 0; second = slot_of w 1; third = slot_of w 2; fourth = slot_of w 3; fifth = slot_of w 4 }
+slots_of w = record { byte = five (slot_of w) }
 
 -- the uncapped price and the flag of the step that ends at u, in schedule s
 unfoldable pub step_price : List ℕ → ℕ → ℕ → StepPrice
@@ -38,23 +38,12 @@ unfoldable pub prices_put : List ℕ → List ℕ → ℕ → ℕ → List ℕ
 prices_put w l u n = put_to 5 l n (λ s. price w s u)
 
 -- at most n steps are flagged in each schedule
-pub record MissingMost (m : Missing) (n : ℕ) : Type 0 where
-  pub first : m.first ≤ n
-  pub second : m.second ≤ n
-  pub third : m.third ≤ n
-  pub fourth : m.fourth ≤ n
-  pub fifth : m.fifth ≤ n
+abbrev pub MissingMost : Missing → ℕ → Type 0
+MissingMost m n = (s : ℕ) → s < 5 → at m.count s ≤ n
 
 -- how many are flagged with the step that ends at u
 unfoldable pub missing_with : List ℕ → ℕ → Missing → Missing
-missing_with w u m =
-    record {
-      first = m.first + flag w 0 u;
-      second = m.second + flag w 1 u;
-      third = m.third + flag w 2 u;
-      fourth = m.fourth + flag w 3 u;
-      fifth = m.fifth + flag w 4 u;
-    }
+missing_with w u m = record { count = five (λ s. at m.count s + flag w s u) }
 
 -- the word of n flags of which the last m are set
 unfoldable pub run_word : ℕ → ℕ → ℕ

@@ -1,5 +1,5 @@
 -- Where the sweep stands before the first step, after one more, and after the last.
-use Prim.Native.Nat.{ℕ, suc, ◌+◌, ◌≤◌, ◌<◌}
+use Prim.Native.Nat.{ℕ, ◌+◌, ◌≤◌, ◌<◌}
 use native.Mathlib.Numerals.{add-one}
 use native.Mathlib.Omega.{arith}
 use mathlib.Core.Path.{◌≡◌, refl, sym, ◌∙◌}
@@ -44,10 +44,13 @@ module _ {w : List ℕ} {n : ℕ} {at : Sweep} {e g : ℕ} (v : SweptTo w n at e
     pub limit : e + 1 + g ≤ quantity_most
     limit = omega (arith, end_limit w v.here.line.accepted n below_count, end_is)
 
-    pub swept_next : {at' : Sweep} {g' : ℕ} → g' ≡ next_gap w (e + 1 + g) → SweepAt w at' (e + 1 + g + 1 + g') → SweptTo w (n + 1) at' (e + 1 + g) g'
-    swept_next s r =
+    pub swept_on : {at' : Sweep} {g' x : ℕ} → x ≡ e + 1 + g → g' ≡ next_gap w x → SweepAt w at' (x + 1 + g') → SweptTo w (n + 1) at' x g'
+    swept_on i s r =
         rw (add-one n)
-        (record { within = below_count; last = unfold lower_end upper_end in end_is; here = r; gap = s })
+        (record { within = below_count; last = i ∙ (unfold lower_end upper_end in end_is); here = r; gap = s })
+
+    pub swept_next : {at' : Sweep} {g' : ℕ} → g' ≡ next_gap w (e + 1 + g) → SweepAt w at' (e + 1 + g + 1 + g') → SweptTo w (n + 1) at' (e + 1 + g) g'
+    swept_next s r = swept_on refl s r
 
   -- after the last
   pub swept_end : far ≤ g → n ≡ step_count w

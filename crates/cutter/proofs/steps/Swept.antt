@@ -1,9 +1,8 @@
 -- What the sweep has done after n steps, as one record, with its start, its step and its end.
 use Prim.Native.Nat.{ℕ, suc, ◌+◌, ◌≤◌, ◌<◌}
-use native.Mathlib.Numerals.{add-one}
 use native.Mathlib.Omega.{arith}
 use mathlib.Core.Path.{◌≡◌, refl, sym, ◌∙◌, ap}
-use mathlib.Core.List.{List, [], ◌∷◌}
+use mathlib.Core.List.{List}
 use lib.ListN.{length, get_or, take, set, replicate, length-take}
 use lib.Seq.{take_all}
 use lib.Count.{ones}
@@ -11,17 +10,18 @@ use Rattle.rules.specs.Fold.{padded, joined, sum_of, five}
 use Rattle.rules.specs.Steps.{ends, step_count, upper_end, lower_end, price, flag}
 use Rattle.rules.specs.Cutting.{prices, flags, flag_word, missing, price_row, cut_of}
 use Rattle.rules.specs.declared.Cut.{Cut}
+use Rattle.laws.specs.Folds.{at_five, same_five}
 use Rattle.laws.specs.Accepted.{AcceptedLine}
 use Rattle.cutter.specs.Lists.{rises_mono}
 use Rattle.cutter.specs.Ends.{ends_rise, count_most}
 use Rattle.cutter.specs.Prices.{flag_stays, prices_length, prices_at, flags_length, flags_at, flags_most}
 use Rattle.cutter.specs.Arrays.{padded_length}
-use Rattle.cutter_cursors.specs.Sweep.{Line, SweepAt, far, next_gap}
+use Rattle.cutter_cursors.specs.Sweep.{Line, far}
 use Rattle.cutter_cursors.specs.declared.cursors.Sweep.{Sweep}
 use Rattle.cutter_prices.specs.Step.{prices_put, MissingMost, missing_with, run_word}
 use Rattle.cutter_prices.specs.declared.Missing.{Missing}
 use Rattle.cutter.specs.Positions.{SweptTo}
-use Rattle.cutter.proofs.positions.Laws.{swept_first, below_count, end_is, room, swept_next, swept_end}
+use Rattle.cutter.proofs.positions.Laws.{below_count, end_is, room, swept_end}
 use Rattle.cutter.proofs.steps.Filling.{padded_set, joined_same, rows_all, Run, sum_more, sum_most, run_bits, ones_bits}
 
 -- the row of prices and the count of flags of schedule s after n steps
@@ -32,8 +32,7 @@ unfoldable pub count_to : List ℕ → ℕ → ℕ → ℕ
 count_to w n s = sum_of (take n (flags w s))
 
 unfoldable pub missing_to : List ℕ → ℕ → Missing
-missing_to w n =
-    record { first = count_to w n 0; second = count_to w n 1; third = count_to w n 2; fourth = count_to w n 3; fifth = count_to w n 4 }
+missing_to w n = record { count = five (count_to w n) }
 
 pub record Swept (w : List ℕ) (n : ℕ) (at : Sweep) (e g : ℕ) (es ps : List ℕ) (m : Missing) : Type 0 where
   pub swept : SweptTo w n at e g
@@ -41,22 +40,23 @@ pub record Swept (w : List ℕ) (n : ℕ) (at : Sweep) (e g : ℕ) (es ps : List
   pub prices : ps ≡ joined 5 (row_to w n)
   pub missing : m ≡ missing_to w n
 
-pub swept_none : (w : List ℕ) (at : Sweep) (g : ℕ) → g ≡ next_gap w 0 → SweepAt w at (0 + 1 + g)
-    → Swept w 0 at 0 g (replicate 56 0) (replicate 280 0) (record { first = 0; second = 0; third = 0; fourth = 0; fifth = 0 })
-swept_none w at g a b =
+pub swept_none : (w : List ℕ) (n : ℕ) (at : Sweep) (e g : ℕ) → SweptTo w n at e g → n ≡ 0
+    → Swept w n at e g (replicate 56 0) (replicate 280 0) (record { count = replicate 5 0 })
+swept_none w n at e g a z =
     record {
-      swept = swept_first w at g a b;
-      ends = unfold padded in refl;
-      prices = unfold joined row_to padded in refl;
-      missing = unfold missing_to count_to sum_of in refl;
+      swept = a;
+      ends = rw z (unfold padded in refl);
+      prices = rw z (unfold joined row_to padded in refl);
+      missing = rw z (unfold missing_to count_to sum_of in refl);
     }
 
 -- no more flags than steps
 pub missing_most : (w : List ℕ) (n : ℕ) {m : Missing} → m ≡ missing_to w n → MissingMost m n
 unfolding missing_to count_to
-missing_most w n e =
-    let k : (s : ℕ) → sum_of (take n (flags w s)) ≤ n = λ s. sum_most (flags w s) (flags_most w s) n in
-    rw e (record { first = k 0; second = k 1; third = k 2; fourth = k 3; fifth = k 4 })
+missing_most w n e s l =
+    let a = ap (λ (x : Missing). get_or x.count s 0) e ∙ at_five (count_to w n) 0 s l in
+    let k = sum_most (flags w s) (flags_most w s) n in
+    omega arith
 
 -- the next step, which ends at e + 1 + g
 module _ {w : List ℕ} {n : ℕ} {at : Sweep} {e g : ℕ} {es ps : List ℕ} {m : Missing} (h : Line w) (v : Swept w n at e g es ps m) (t : g < far) where
@@ -104,21 +104,19 @@ module _ {w : List ℕ} {n : ℕ} {at : Sweep} {e g : ℕ} {es ps : List ℕ} {m
   unfolding missing_with missing_to
   missing_more =
       rw v.missing
-      (λ i.
-      record { first = count_more 0 i; second = count_more 1 i; third = count_more 2 i; fourth = count_more 3 i; fifth = count_more 4 i })
+      (ap (λ (l : List ℕ). record { count = l }) (same_five (count_more 0) (count_more 1) (count_more 2) (count_more 3) (count_more 4)))
 
-  pub swept_more : {at' : Sweep} {g' : ℕ} {ps' : List ℕ} {m' : Missing} → ps' ≡ prices_put w ps (e + 1 + g) n → m' ≡ missing_with w (e + 1 + g) m
-      → g' ≡ next_gap w (e + 1 + g) → SweepAt w at' (e + 1 + g + 1 + g')
-      → Swept w (n + 1) at' (e + 1 + g) g' (set es n (e + 1 + g)) ps' m'
-  swept_more p q s r =
+  pub swept_more : {n' : ℕ} {at' : Sweep} {e' g' x : ℕ} {ps' : List ℕ} {m' : Missing} → x ≡ e + 1 + g → ps' ≡ prices_put w ps x n
+      → m' ≡ missing_with w x m → SweptTo w n' at' e' g' → n' ≡ n + 1 → Swept w n' at' e' g' (set es n x) ps' m'
+  swept_more {n'} i p q s k =
       let c = count_most w h.accepted in
-      rw (add-one n)
-      (record {
-        swept = rw (← add-one n) (swept_next v.swept t s r);
-        ends = rw (v.ends, ends_there) (unfold upper_end step_count in padded_set 56 n (ends w) below c);
-        prices = p ∙ prices_more;
-        missing = q ∙ missing_more;
-      })
+      let z : n' ≡ suc n = omega arith in
+      record {
+        swept = s;
+        ends = rw (z, v.ends, i, ends_there) (unfold upper_end step_count in padded_set 56 n (ends w) below c);
+        prices = rw z ((rw i at p) ∙ prices_more);
+        missing = rw z ((rw i at q) ∙ missing_more);
+      }
 
 -- the flagged steps are a run at the end
 flags_run : (w : List ℕ) → AcceptedLine w → (s : ℕ) → Run (flags w s)
@@ -155,18 +153,17 @@ module _ {w : List ℕ} {n : ℕ} {at : Sweep} {e g : ℕ} {es ps : List ℕ} {m
   unfolding step_count
   ends_all = let a = all in v.ends ∙ ap (padded 56) (take_all n (ends w) (omega arith))
 
-  pub swept_all : {x y : List ℕ} → x ≡ (run_word n m.first ∷ run_word n m.second ∷ run_word n m.third ∷ run_word n m.fourth ∷ run_word n m.fifth ∷ [])
-      → y ≡ five (λ s. ones (Rattle.rules.specs.Fold.at x s))
+  pub swept_all : {x y : List ℕ} → x ≡ five (λ s. run_word n (get_or m.count s 0)) → y ≡ five (λ s. ones (get_or x s 0))
       → ◌≡◌ {A = Cut} (record { flags = x; number = 0; count = n; missing = y; ends = es; prices = ps; reserved = 0 }) (cut_of w)
   unfolding cut_of missing_to
   swept_all f k =
       rw (k, f, v.missing)
       (λ i.
       record {
-        flags = word_all 0 i ∷ word_all 1 i ∷ word_all 2 i ∷ word_all 3 i ∷ word_all 4 i ∷ [];
+        flags = five (λ s. word_all s i);
         number = 0;
         count = all i;
-        missing = ones_all 0 i ∷ ones_all 1 i ∷ ones_all 2 i ∷ ones_all 3 i ∷ ones_all 4 i ∷ [];
+        missing = five (λ s. ones_all s i);
         ends = ends_all i;
         prices = (v.prices ∙ joined_same 5 (row_to w n) (price_row w) row_all) i;
         reserved = 0;

@@ -1,10 +1,12 @@
 -- What each move of the sweep gives, as its proof wants it: from the callees' results to the definition of the contract.
 use Rattle.std.proofs.Common.{◌≡◌, ℕ, suc, ◌+◌, ◌-◌, ◌%◌, ◌<◌, ◌≤◌, min, Bool, true, false, eqb, List, sym, refl, ap, ◌∙◌, arith, le-ltb, lt-ltb, ne_eqb}
 use native.Mathlib.Decide.{dec_lt}
+use mir.Val.{bool_byte}
+use Rattle.rules.specs.Fold.{five, at}
 use Rattle.rules.specs.Layout.{quantity_most, hedge, bid_count, bid_break}
 use Rattle.rules.specs.Steps.{bid_step}
 use Rattle.rules.specs.Payments.{bit}
-use Rattle.cutter_cursors.specs.Search.{bid_first, first_mono}
+use Rattle.cutter_cursors.specs.Search.{bid_first, first_mono, bit_is}
 use Rattle.cutter_cursors.specs.Sweep.{Standing, past, place_of, stop_of, gap_of, break_gap, least_to, next_gap}
 use Rattle.cutter_cursors.specs.Places.{of_bid, place_below, break_pulled, step_after}
 
@@ -12,12 +14,9 @@ use Rattle.cutter_cursors.specs.Places.{of_bid, place_below, break_pulled, step_
 bit_ne : (a b : ℕ) → (a ≡ b → ⊥) → 0 ≡ bit (eqb a b)
 bit_ne a b e = rw (ne_eqb a b e)
 
-bit_most : (t : Bool) → bit t ≤ 1
+pub bit_most : (t : Bool) → bool_byte t ≤ 1
 bit_most true = omega arith
 bit_most false = omega arith
-
-pub bit_one : (t : Bool) {m : ℕ} → m ≡ bit t → m ≤ 1
-bit_one t e = let m = bit_most t in omega arith
 
 -- the break at which a cursor moves on
 pub stop_more : (w : List ℕ) (s at : ℕ) {n b : ℕ} → n ≡ bid_count w s → at < n → b ≡ bid_break w s (at - 1) → b ≡ stop_of w s at
@@ -29,17 +28,18 @@ unfolding stop_of
 stop_last w s at e l = rw (le-ltb at (bid_count w s) (omega arith))
 
 -- and where it stands then
-pub moved_is : {w : List ℕ} {s at u k m : ℕ} → Standing w s at u → u < past → k ≡ stop_of w s at → m ≡ bit (eqb k u) → at + m ≡ place_of w s (suc u)
+pub moved_is : {w : List ℕ} {s at u k m : ℕ} → Standing w s at u → u < past → k ≡ stop_of w s at → m ≡ bool_byte (eqb k u) → at + m ≡ place_of w s (suc u)
 unfolding place_of
 moved_is {w} {s} {at} {u} {k} {m} h l f e =
     let p = h.place in
-    let b = bit_one (eqb k u) e in
+    let b = bit_most (eqb k u) in
+    let d = e ∙ bit_is (eqb k u) in
     elim (dec_lt (suc (bid_step w s u)) (bid_count w s)) [
       | yes j ↦
           let q : bid_step w s u ≡ at - 1 = omega arith in
           let z = f ∙ sym (stop_more w s at refl (omega arith) (ap (bid_break w s) q)) in
           let a = step_after (of_bid h) u (omega arith) in
-          let y = e ∙ ap (λ (x : ℕ). bit (eqb x u)) z in
+          let y = d ∙ ap (λ (x : ℕ). bit (eqb x u)) z in
           omega arith
       | no j ↦
           let z = stop_last w s at refl (omega arith) in
@@ -75,9 +75,7 @@ min_orders a b c d e h =
     let q : (y : ℕ) → min y (min e h) ≡ min (min h y) e = λ y. omega arith in
     rw (p (min a b) c d, q (min (min (min a b) c) d), p h (min (min a b) c) d, p h (min a b) c, p h a b)
 
-pub next_is : (w : List ℕ) (x : ℕ) {a b c d e f g p q l m r : ℕ} → a ≡ break_gap w x 0 → b ≡ break_gap w x 1 → p ≡ min a b → c ≡ break_gap w x 2
-    → d ≡ break_gap w x 3 → q ≡ min c d → l ≡ min p q → e ≡ break_gap w x 4 → g ≡ hedge w → f ≡ gap_of g x → m ≡ min e f → r ≡ min l m
-    → r ≡ next_gap w x
+pub next_is : (w : List ℕ) (x : ℕ) {l : List ℕ} {h g p q r m n : ℕ} → l ≡ five (break_gap w x) → p ≡ min (at l 0) (at l 1) → q ≡ min (at l 2) (at l 3)
+    → r ≡ min p q → h ≡ hedge w → g ≡ gap_of h x → m ≡ min (at l 4) g → n ≡ min r m → n ≡ next_gap w x
 unfolding next_gap least_to
-next_is w x a b p c d q l e g f m r =
-    rw (r, l, m, p, q, a, b, c, d, e, f, g) (min_orders _ _ _ _ _ _)
+next_is w x l p q r h g m n = rw (n, m, r, p, q, g, h, l) (min_orders _ _ _ _ _ _)

@@ -1,6 +1,5 @@
 -- `cutter_prices::flag_word` meets its contract.
 use native.Mathlib.Omega.{arith}
-use borrow.Author.Rules.{rules}
 use Rattle.cutter_prices.proofs.Written.{shifted_fits, run_is}
 use Rattle.cutter_prices.proofs.flag_word.Goals as goal
 

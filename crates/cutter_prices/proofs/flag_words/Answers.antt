@@ -1,25 +1,15 @@
 -- `cutter_prices::flag_words` meets its contract.
-use Rattle.cutter_prices.proofs.Written.{words_are}
+use Rattle.std.proofs.Common.{rules}
+use Rattle.std.proofs.iter.Serving.{serving}
+use Rattle.rules.specs.Fold.{at}
+use Rattle.cutter_cursors.specs.Places.{five_of}
+use Rattle.cutter_prices.specs.Step.{run_word}
 use Rattle.cutter_prices.proofs.flag_words.Goals as goal
 
-pub flag_word-requires : goal.flag_word-requires
-flag_word-requires c = (c.requires.0, c.requires.1.first)
-
-pub flag_word-requires-2 : goal.flag_word-requires-2
-flag_word-requires-2 c = (c.requires.0, c.requires.1.second)
-
-pub flag_word-requires-3 : goal.flag_word-requires-3
-flag_word-requires-3 c = (c.requires.0, c.requires.1.third)
-
-pub flag_word-requires-4 : goal.flag_word-requires-4
-flag_word-requires-4 c =
-    (c.requires.0, c.requires.1.fourth)
-
-pub flag_word-requires-5 : goal.flag_word-requires-5
-flag_word-requires-5 c =
-    (c.requires.0, c.requires.1.fifth)
+pub from_fn-requires : goal.from_fn-requires
+from_fn-requires c = grind (serving, c.requires.1)
 
 pub returns : goal.returns
 returns c =
-    words_are _ _ c.flag_word.ensures c.flag_word-2.ensures
-    c.flag_word-3.ensures c.flag_word-4.ensures c.flag_word-5.ensures
+    five_of 0 (λ s. run_word c.args.n (at c.args.m.count s)) _ c.from_fn.ensures.items.long
+    (λ s l. search (rules, c.from_fn.ensures.items.at s 0 l))

@@ -1,27 +1,11 @@
 -- `cutter_prices::price_slots` meets its contract.
-use native.Mathlib.Omega.{arith}
-use Rattle.cutter_prices.proofs.Written.{slot_first, slots_are}
+use Rattle.std.proofs.Common.{rules, ap, List, ℕ}
+use Rattle.cutter_cursors.specs.Places.{five_of}
+use Rattle.cutter_prices.specs.Step.{slot_of, slots_of}
 use Rattle.cutter_prices.proofs.price_slots.Goals as goal
 
-pub before_price-requires : goal.before_price-requires
-before_price-requires c = (omega arith, omega arith)
-
-pub slot_of-requires : goal.slot_of-requires
-slot_of-requires c = (c.requires, omega arith)
-
-pub slot_of-requires-2 : goal.slot_of-requires-2
-slot_of-requires-2 c = (c.requires, omega arith)
-
-pub slot_of-requires-3 : goal.slot_of-requires-3
-slot_of-requires-3 c =
-    (c.requires, omega arith)
-
-pub slot_of-requires-4 : goal.slot_of-requires-4
-slot_of-requires-4 c =
-    (c.requires, omega arith)
-
 pub returns : goal.returns
+unfolding slots_of
 returns c =
-    slots_are _ (slot_first c.requires c.before_price.ensures)
-    c.slot_of.ensures c.slot_of-2.ensures c.slot_of-3.ensures
-    c.slot_of-4.ensures
+    ap (λ (l : List ℕ). record { byte = l })
+    (five_of 0 (slot_of c.args.line.now) _ c.from_fn.ensures.items.long (λ s l. search (rules, c.from_fn.ensures.items.at s 0 l)))

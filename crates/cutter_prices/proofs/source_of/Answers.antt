@@ -1,8 +1,6 @@
 -- `cutter_prices::source_of` meets its contract.
-use Prim.Native.Nat.{◌≤◌}
 use native.Mathlib.Omega.{arith}
-use mathlib.Core.Path.{◌≡◌, refl}
-use Rattle.rules.specs.Steps.{source}
+use mathlib.Core.Path.{refl}
 use Rattle.cutter_prices.proofs.Written.{search_goes, search_next, search_ends}
 use Rattle.cutter_prices.proofs.source_of.Goals as goal
 
@@ -10,7 +8,7 @@ pub loop-r-init : goal.loop-r-init
 loop-r-init c = (omega arith, refl)
 
 pub bid_count-requires : goal.bid_count-requires
-bid_count-requires c = (c.requires.0.long, omega (arith, c.requires.1, c.loop-r.invariant.0))
+bid_count-requires c = omega (arith, c.requires.1, c.loop-r.invariant.0)
 
 pub overflow_sub-r : goal.overflow_sub-r
 overflow_sub-r c =

@@ -1,9 +1,7 @@
 -- `cutter_prices::source_of` meets its contract.
 use Prim.Native.Nat.{◌≤◌}
-use native.Mathlib.Omega.{arith}
-use mathlib.Core.Path.{◌≡◌, refl}
+use mathlib.Core.Path.{◌≡◌}
 use Rattle.rules.specs.Steps.{source}
-use Rattle.cutter_prices.proofs.Written.{search_goes, search_next, search_ends}
 use Rattle.cutter_prices.proofs.source_of.Given as goal
 
 abbrev pub invariant-loop-r : goal.invariant-loop-r

@@ -1,6 +1,8 @@
 -- `cutter_prices::step_price` meets its contract.
 use native.Mathlib.Omega.{arith}
+use mathlib.Core.Path.{◌∙◌}
 use Rattle.cutter_cursors.specs.Places.{place_least, place_read}
+use Rattle.cutter_cursors.specs.Search.{bit_is}
 use Rattle.cutter_prices.proofs.Written.{slot_read, step_price_is}
 use Rattle.cutter_prices.proofs.step_price.Goals as goal
 
@@ -22,4 +24,4 @@ bid_break-requires c = place_read c.requires.0
 pub returns : goal.returns
 returns c =
     step_price_is c.requires.0 c.requires.1 c.word_at.ensures c.bid_break.ensures
-    c.bit.ensures
+    (c.from.ensures ∙ bit_is _)

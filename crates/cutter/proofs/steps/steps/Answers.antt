@@ -1,74 +1,45 @@
 -- `cutter::steps::steps` meets its contract.
-use native.Mathlib.Omega.{arith}
-use Prim.Native.Nat.{◌-◌}
-use Rattle.rules.specs.Steps.{step_count}
+use Rattle.std.proofs.Common.{ℕ, arith, sym, subst}
+use Rattle.cutter_cursors.specs.Sweep.{SweepAt}
 use Rattle.cutter.specs.Ends.{count_most}
-use Rattle.cutter.proofs.positions.Laws.{sweep_first, below_count, room, limit}
-use Rattle.cutter.proofs.steps.Swept.{Swept, swept_none, missing_most, swept_more, swept_all}
+use Rattle.cutter.proofs.positions.Laws.{lower_most, room}
+use Rattle.cutter.proofs.steps.Swept.{swept_none, missing_most, swept_more, swept_all}
 use Rattle.cutter.proofs.steps.steps.Goals as goal
 
-pub price_slots-slots-requires : goal.price_slots-slots-requires
-price_slots-slots-requires c = c.requires
+pub loop-end-init : goal.loop-end-init
+loop-end-init c = swept_none _ _ _ _ _ c.first_position-at.ensures.0 c.first_position-at.ensures.1
 
-pub next_gap-far-requires : goal.next_gap-far-requires
-next_gap-far-requires c = (sweep_first c.requires c.start-places.ensures, omega arith)
+pub next_end-requires : goal.next_end-requires
+next_end-requires c = lower_most c.loop-end.invariant.swept
 
-pub loop-far-init : goal.loop-far-init
-loop-far-init c = swept_none _ _ _ c.next_gap-far.ensures.value c.next_gap-far.ensures.sweep_at
+pub offset_bounds-ends-at : goal.offset_bounds-ends-at
+offset_bounds-ends-at c = omega (arith, room c.loop-end.invariant.swept c.in-Some.ensures.0)
 
-pub overflow_add-end : goal.overflow_add-end
-overflow_add-end c = omega (arith, limit c.loop-far.invariant.swept c.loop-far-test.true)
-
-pub overflow_add-end-in-loop-far : goal.overflow_add-end-in-loop-far
-overflow_add-end-in-loop-far c = omega (arith, limit c.loop-far.invariant.swept c.loop-far-test.true)
-
-pub offset_bounds-ends-n : goal.offset_bounds-ends-n
-offset_bounds-ends-n c = omega (arith, room c.loop-far.invariant.swept c.loop-far-test.true)
-
-pub bounds-ends-n : goal.bounds-ends-n
-bounds-ends-n c = room c.loop-far.invariant.swept c.loop-far-test.true
+pub bounds-ends-at : goal.bounds-ends-at
+bounds-ends-at c = room c.loop-end.invariant.swept c.in-Some.ensures.0
 
 pub put_step-missing-requires : goal.put_step-missing-requires
 put_step-missing-requires c = (
-  c.loop-far.invariant.swept.here,
+  subst (λ (x : ℕ). SweepAt c.args.line.now c.loop-end.at.places x) (sym c.in-Some.ensures.1) c.loop-end.invariant.swept.here,
   c.price_slots-slots.ensures,
-  room c.loop-far.invariant.swept c.loop-far-test.true,
-  missing_most _ _ c.loop-far.invariant.missing,
+  room c.loop-end.invariant.swept c.in-Some.ensures.0,
+  missing_most _ _ c.loop-end.invariant.missing,
 )
 
-pub passed-places-requires : goal.passed-places-requires
-passed-places-requires c =
-    (c.loop-far.invariant.swept.here, omega (arith, limit c.loop-far.invariant.swept c.loop-far-test.true))
-
-pub next_gap-far-requires-in-loop-far : goal.next_gap-far-requires-in-loop-far
-next_gap-far-requires-in-loop-far c = (
-  record { line = c.requires; above = omega arith; same = c.passed-places.ensures },
-  limit c.loop-far.invariant.swept c.loop-far-test.true,
-)
-
-pub overflow_add-n : goal.overflow_add-n
-overflow_add-n c =
-    omega (arith, room c.loop-far.invariant.swept c.loop-far-test.true)
-
-pub loop-far-smaller : goal.loop-far-smaller
-loop-far-smaller c =
-    omega (arith, below_count c.loop-far.invariant.swept c.loop-far-test.true)
-
-pub loop-far-preserved : goal.loop-far-preserved
-loop-far-preserved c =
-    swept_more c.requires c.loop-far.invariant
-    c.loop-far-test.true c.put_step-missing.ensures.prices_after
-    c.put_step-missing.ensures.value c.next_gap-far-in-loop-far.ensures.value c.next_gap-far-in-loop-far.ensures.sweep_at
+pub loop-end-preserved : goal.loop-end-preserved
+loop-end-preserved c =
+    swept_more c.requires c.loop-end.invariant c.in-Some.ensures.0 c.in-Some.ensures.1 c.put_step-missing.ensures.prices_after
+    c.put_step-missing.ensures.value c.passed-at.ensures.0 c.passed-at.ensures.1
 
 pub flag_words-flags-requires : goal.flag_words-flags-requires
 flag_words-flags-requires c =
-    (omega (arith, c.loop-far.invariant.swept.within, count_most _ c.requires.accepted), missing_most _ _ c.loop-far.invariant.missing)
+    (omega (arith, c.loop-end.invariant.swept.within, count_most _ c.requires.accepted), missing_most _ _ c.loop-end.invariant.missing)
 
 pub overflow_cast-result : goal.overflow_cast-result
 overflow_cast-result c =
-    omega (arith, c.loop-far.invariant.swept.within, count_most _ c.requires.accepted)
+    omega (arith, c.loop-end.invariant.swept.within, count_most _ c.requires.accepted)
 
 pub returns : goal.returns
 returns c =
-    swept_all c.requires c.loop-far.invariant c.loop-far-test.false
+    swept_all c.requires c.loop-end.invariant c.in_default.ensures
     c.flag_words-flags.ensures c.counted.ensures
