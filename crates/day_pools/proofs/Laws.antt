@@ -18,8 +18,6 @@ use Rattle.rules.specs.Days.{step_of, settled_day}
 use Rattle.rules.specs.declared.Step.{Step}
 use Rattle.rules.specs.declared.Cut.{Cut}
 use Rattle.laws.specs.Accepted.{AcceptedLine, AcceptedDay, accepted_line_at}
-use Rattle.layout.proofs.header.Lent.{line_length}
-use Rattle.cutter_cursors.specs.Sweep.{Line}
 use Rattle.cutter.specs.Ends.{count_most}
 use Rattle.step_payments.specs.Sizes.{Sized}
 use Rattle.step_payments.specs.Amounts.{money_of}
@@ -34,31 +32,10 @@ use Rattle.step_inputs.specs.Paid.{DaySized, settled_sized}
 use Rattle.day_pools.specs.Sums.{pool_to, pool_more, money_to, money_more}
 use Rattle.day_pools.specs.Sides.{step_pool_at, line_pool, side_part, side_pool}
 use Rattle.day_pools.specs.Lines.{PoolFor, Payable, payable, step_money, step_money_is, money_adds, no_pool_lem}
-use Rattle.day_pools.specs.Passes.{LineReady}
 use Rattle.day_pools.specs.Sizes.{steps_addable, lines_addable}
 
 -- line k of an accepted day
 module _ (d : List ℕ) (a : AcceptedDay d) (k : ℕ) (l : k < line_count d) where
-  pub line_lies : (64 ≤ length d) × (k < 64) × (line_place d (k + 1) ≤ length d)
-  line_lies = (omega (arith, a.header.length_least), omega (arith, a.header.count_most), omega (arith, a.header.length_is))
-
-  pub lent_length : (v : List ℕ) → v ≡ line_at d k → length v ≡ 660
-  lent_length v e = ap length e ∙ line_length d k line_lies.2
-
-  -- what its rows in force are read from
-  pub table_lies : (v : List ℕ) → v ≡ line_at d k → (64 ≤ length d) × (file_length d ≤ length d) × (length v ≡ 660) × (v ≡ line_at d k)
-  table_lies v e = (line_lies.0, omega (arith, a.header.length_is), lent_length v e, e)
-
-  pub lent_with : (v : List ℕ) → v ≡ line_at d k → (tb : List (List ℕ)) → tb ≡ table_in_force d k → line_fault_with tb v ≡ 0
-  lent_with v e tb be = rw (e, be) (a.line_fault_lem k l)
-
-  pub lent_line : (v : List ℕ) → v ≡ line_at d k → Line v
-  lent_line v e = record { long = lent_length v e; accepted = subst AcceptedLine (sym e) (accepted_line_at d a k l) }
-
-  pub ready_is : (v : List ℕ) (tb : List (List ℕ)) (t : LineTotals) → v ≡ line_at d k → tb ≡ table_in_force d k → t ≡ totals_of tb v → LineReady d k v t
-  ready_is v tb t e be te =
-      record { accepted = a; there = l; line = e; totals = te ∙ ap (λ (z : List (List ℕ)). totals_of z v) be }
-
   -- step j of it
   module _ (j : ℕ) (below : j < step_count (line_at d k)) where
     pub sized_at : Sized (step_of d k j)

@@ -26,7 +26,7 @@ use Rattle.cutter.specs.declared.positions.Position.{Position}
 use Rattle.cutter.proofs.positions.Laws.{lower_most, below_count, end_is, room, limit, swept_next, swept_end}
 use Rattle.step_inputs.specs.declared.inputs.Market.{Market}
 use Rattle.step_inputs.specs.declared.inputs.LineTotals.{LineTotals}
-use Rattle.step_inputs.specs.Inputs.{market_of, totals_of, StepHere}
+use Rattle.step_inputs.specs.Inputs.{market_of, totals_of}
 use Rattle.step_payments.specs.declared.amounts.Money.{Money}
 use Rattle.step_payments.specs.Amounts.{money_of, minus_of, plus_of}
 use Rattle.step_pool.specs.Amounts.{Idle, Kept, all_zero, takes_back, step_pool, no_pool, no_money, money_sum, pool_at, final_on}
@@ -39,8 +39,9 @@ use Rattle.day_pools.specs.Marks.{word_to, word_none, word_suc, word_below, word
 use Rattle.day_pools.specs.Sums.{pool_to, pool_rest, money_to, money_more, money_rest}
 use Rattle.day_pools.specs.Sides.{step_pool_at, line_pool, side_pool}
 use Rattle.day_pools.specs.Lines.{PoolFor, step_money, step_money_is, no_pool_lem, no_money_lem}
-use Rattle.day_pools.specs.Passes.{LineReady, PastHedge, Entered, takes_from, LinePooled}
-use Rattle.day_pools.proofs.Laws.{lent_line}
+use Rattle.step_inputs.specs.Ready.{LineReady, PastHedge}
+use Rattle.step_inputs.proofs.Lines.{lent_line}
+use Rattle.day_pools.specs.Passes.{Entered, takes_from, LinePooled}
 use Rattle.day_pools.proofs.Idle.{below_idle, past_idle, covered_idle}
 
 -- ends rise
@@ -59,9 +60,9 @@ unfolding takes_back
 takes_most x = bit_most (not (all_zero (five (minus_of (initial x)))))
 
 -- the next step ends past the hedge too
-pub past_next : {w : List ℕ} {j : ℕ} {at : Sweep} {e g : ℕ} → PastHedge w j at e g → g < far → {at' : Sweep} {g' : ℕ} → g' ≡ next_gap w (e + 1 + g) → SweepAt w at' (e + 1 + g + 1 + g')
-    → PastHedge w (j + 1) at' (e + 1 + g) g'
-past_next v l s r = record { swept = swept_next v.swept l s r; past = λ _. omega (arith, v.past l) }
+pub past_next : {w : List ℕ} {j : ℕ} {at : Sweep} {e g : ℕ} → PastHedge w j at e g → g < far → {r : Position} → SweptAt w r → r.lower ≡ e + 1 + g → r.step ≡ j + 1
+    → PastHedge w r.step r.places r.lower r.gap
+past_next v l {r} s le se = record { swept = s; past = λ _. omega (arith, v.past l, le) }
 
 pub pool_own : (y : Day) (sd : ℕ) → PoolFor y sd (side_pool y sd)
 pool_own y sd = record { shared = λ n. refl }
@@ -126,19 +127,6 @@ module _ {d : List ℕ} {k : ℕ} {w : List ℕ} {t : LineTotals} (h : LineReady
 
   -- step j, before which the sweep stands
   module _ {j : ℕ} {at : Sweep} {e g : ℕ} (v : PastHedge w j at e g) where
-    pub step_ready : g < far → (m : Market) (c : Slots) → m ≡ market_of d → c ≡ slots_of w → StepHere d k w m t c at e (e + 1 + g) j
-    step_ready l m c me ce =
-        record {
-          line = h.line;
-          market = me;
-          totals = h.totals;
-          prices = ce;
-          here = v.swept.here;
-          lower = v.swept.last;
-          upper = end_is v.swept l;
-          past = v.past l;
-        }
-
     pub below_there : g < far → j < step_count (line_at d k)
     below_there l = subst (λ (z : List ℕ). j < step_count z) h.line (below_count v.swept l)
 

@@ -1,32 +1,14 @@
 -- What the passes over a line's steps hold: where the sweep enters the window, and what the first pass keeps for the second.
 use Rattle.std.specs.Prelude.{ℕ, ◌+◌, ◌-◌, ◌<◌, ◌≡◌, List}
-use Rattle.rules.specs.Layout.{line_count, line_at, hedge}
-use Rattle.rules.specs.InForce.{table_in_force}
+use Rattle.rules.specs.Layout.{line_at}
 use Rattle.rules.specs.Steps.{step_count}
 use Rattle.rules.specs.Days.{step_of, settled_day}
-use Rattle.laws.specs.Accepted.{AcceptedDay}
-use Rattle.cutter_cursors.specs.Sweep.{far}
-use Rattle.cutter_cursors.specs.declared.cursors.Sweep.{Sweep}
-use Rattle.cutter.specs.Positions.{SweptTo}
 use Rattle.cutter.specs.declared.positions.Position.{Position}
-use Rattle.step_inputs.specs.declared.inputs.LineTotals.{LineTotals}
-use Rattle.step_inputs.specs.Inputs.{totals_of}
+use Rattle.step_inputs.specs.Ready.{PastHedge}
 use Rattle.step_pool.specs.Amounts.{Idle, takes_back}
 use Rattle.day_pools.specs.declared.LinePool.{LinePool}
 use Rattle.day_pools.specs.Marks.{word_to}
 use Rattle.day_pools.specs.Sides.{line_pool}
-
--- line k of an accepted day: its bytes and its totals
-pub record LineReady (d : List ℕ) (k : ℕ) (w : List ℕ) (t : LineTotals) : Type 0 where
-  pub accepted : AcceptedDay d
-  pub there : k < line_count d
-  pub line : w ≡ line_at d k
-  pub totals : t ≡ totals_of (table_in_force d k) w
-
--- the sweep over the line w stands before step j, which, if there is one, ends past the hedge
-pub record PastHedge (w : List ℕ) (j : ℕ) (at : Sweep) (e g : ℕ) : Type 0 where
-  pub swept : SweptTo w j at e g
-  pub past : g < far → hedge w < e + 1 + g
 
 -- p is where the sweep over line k enters the window: no step before it has a paid rise or fall
 pub record Entered (d : List ℕ) (k : ℕ) (p : Position) : Type 0 where

@@ -1,20 +1,19 @@
-// What one step is worked out from: the market table, a line's totals and the cut step, put together as a `Step`.
+// What the steps of a day and of a line share: the market table and a line's totals.
 ghost use Rattle.std.specs.Prelude.{◌≡◌, ℕ, ◌≤◌, ◌<◌, ◌^◌, length};
 ghost use Rattle.rules.specs.Fold.{five, at};
 ghost use Rattle.rules.specs.Refusals.{line_fault_with};
-ghost use Rattle.rules.specs.Days.{step_of};
-ghost use Rattle.step_inputs.specs.Inputs.{market_of, totals_of, step_with, StepReady, StepHere};
+ghost use Rattle.step_inputs.specs.Inputs.{market_of, totals_of, step_with};
+ghost use Rattle.step_terms.specs.Terms.{paid_row};
 
-use cutter::read_step::{flag_row, price_row};
-use cutter_cursors::cursors::Sweep;
-use cutter_prices::{Slots, step_rows};
 use layout::fields::{accreditation, hedge, side};
+use layout::header::Line;
 use layout::market::{cap_marks, clawback, market_prices, price_cap};
 use line_limits::greatest_break::greatest_break;
 use line_quantities::rows::{actuals, pricing_totals};
 use line_totals::{effective_actual, operating_totals};
 use rules::Step;
-use step_terms::{accredited_row, capped_row, paid_row};
+use std::array::from_fn;
+use step_terms::{accredited_row, capped_row};
 
 // The market table.
 #[derive(Clone, Copy)]
@@ -62,133 +61,52 @@ fn narrow_row(row: [u64; 5]) -> [u32; 5]
     requires { (s : ℕ) → s < 5 → at row s < 2 ^ 32 }
     ensures { result ≡ five (at row) }
 {
-    [
-        narrow(row[0]),
-        narrow(row[1]),
-        narrow(row[2]),
-        narrow(row[3]),
-        narrow(row[4]),
-    ]
+    from_fn(|s| row[s] as u32)
 }
 
 // The totals of a line that is accepted with this table of operating quantities.
-pub fn totals_of(line: &[u8], table: [[u32; 5]; 5]) -> LineTotals
-    requires { (length line.now ≡ 660) × (line_fault_with table line.now ≡ 0) }
+pub fn totals_of(line: &Line, table: [[u32; 5]; 5]) -> LineTotals
+    requires { line_fault_with table line.now ≡ 0 }
     ensures { result ≡ totals_of table line.now }
 {
-    let last = table[4];
     LineTotals {
         side: side(line),
         accredited: accredited_row(accreditation(line)),
         hedge: hedge(line),
         pricing: narrow_row(pricing_totals(line)),
         operating: narrow_row(operating_totals(table)),
-        actual: narrow(effective_actual(last, actuals(line))),
+        actual: narrow(effective_actual(table[4], actuals(line))),
         most: greatest_break(line),
     }
 }
 
-// A step from its ends, uncapped prices and flags.
-fn step_of(
+// A step from its ends, uncapped prices and flags, and where it is paid.
+pub(crate) fn step_with(
     m: Market,
     t: LineTotals,
     lower: u32,
     upper: u32,
     price: [u32; 5],
     flag: [u32; 5],
+    paid: [u32; 5],
 ) -> Step
+    requires { paid ≡ paid_row t.accredited t.hedge upper }
     ensures { result ≡ step_with m t lower upper price flag }
 {
-    let mark = m.mark;
     let market = m.price;
-    let accredited = t.accredited;
     let pricing = t.pricing;
     let operating = t.operating;
     Step {
         side: t.side,
         lower,
         upper,
-        price: capped_row(mark, m.cap, price),
+        price: capped_row(m.mark, m.cap, price),
         flag,
         market,
-        paid: paid_row(accredited, t.hedge, upper),
+        paid,
         pricing,
         operating,
         actual: t.actual,
         most: t.most,
     }
-}
-
-// Step j of line k, from the market table, the line's totals and what the cutter answers for it; `lower` is the end before. The day's
-// bytes are not read: the contract speaks of them.
-pub fn step_at(
-    day: &[u8],
-    k: usize,
-    m: Market,
-    t: LineTotals,
-    ends: &[u32; 56],
-    prices: &[u32; 280],
-    flags: [u64; 5],
-    lower: u32,
-    j: usize,
-) -> Step
-    requires { StepReady day.now k m t ends.now prices.now flags lower j }
-    ensures { result ≡ step_of day.now k j }
-{
-    let upper = ends[j];
-    step_of(m, t, lower, upper, price_row(prices, j), flag_row(flags, j))
-}
-
-// A step that ends past the hedge: it is paid in each schedule in which its line is accredited.
-fn unhedged_step(
-    m: Market,
-    t: LineTotals,
-    lower: u32,
-    upper: u32,
-    price: [u32; 5],
-    flag: [u32; 5],
-) -> Step
-    requires { t.hedge < upper }
-    ensures { result ≡ step_with m t lower upper price flag }
-{
-    let mark = m.mark;
-    let market = m.price;
-    let accredited = t.accredited;
-    let pricing = t.pricing;
-    let operating = t.operating;
-    Step {
-        side: t.side,
-        lower,
-        upper,
-        price: capped_row(mark, m.cap, price),
-        flag,
-        market,
-        paid: accredited,
-        pricing,
-        operating,
-        actual: t.actual,
-        most: t.most,
-    }
-}
-
-// Step j of line k, past the hedge, where the sweep over the line stands; `line` is the line's bytes, and those of the day are not read.
-pub fn step_here(
-    day: &[u8],
-    k: usize,
-    line: &[u8],
-    m: Market,
-    t: LineTotals,
-    slots: Slots,
-    places: Sweep,
-    lower: u32,
-    upper: u32,
-    j: usize,
-) -> Step
-    requires { StepHere day.now k line.now m t slots places lower upper j }
-    ensures { result ≡ step_of day.now k j }
-{
-    let rows = step_rows(line, slots, places, upper);
-    let price = rows.price;
-    let flag = rows.flag;
-    unhedged_step(m, t, lower, upper, price, flag)
 }

@@ -2,4 +2,5 @@
 
 #![tactic(auto)]
 
+pub mod day_line;
 pub mod inputs;

@@ -7,15 +7,15 @@ use Rattle.day_pools.proofs.Passes.{line_ready, count_few, counted, covered_pool
 use Rattle.day_pools.proofs.covered_pool.Goals as goal
 
 pub first_position-requires : goal.first_position-requires
-first_position-requires c = line_ready c.requires.0
+first_position-requires c = line_ready c.args.line.now.ready
 
 pub skip_to-from-requires : goal.skip_to-from-requires
-skip_to-from-requires c = (line_ready c.requires.0, c.first_position.ensures.0)
+skip_to-from-requires c = (line_ready c.args.line.now.ready, c.first_position.ensures.0)
 
 pub overflow_cast-result : goal.overflow_cast-result
 overflow_cast-result c =
-    omega (arith, counted c.skip_to-from.ensures ∙ ap step_count c.requires.0.line, count_few c.requires.0)
+    omega (arith, counted c.skip_to-from.ensures ∙ ap step_count c.args.line.now.ready.line, count_few c.args.line.now.ready)
 
 pub returns : goal.returns
 returns c =
-    covered_pooled c.requires.0 c.requires.1 c.skip_to-from.ensures c.empty_pool.ensures
+    covered_pooled c.args.line.now.ready c.requires c.skip_to-from.ensures c.empty_pool.ensures

@@ -11,30 +11,28 @@ use Rattle.day_pools.specs.Lines.{no_pool_lem}
 use Rattle.day_pools.proofs.Laws.{side_addable, side_next, side_whole}
 use Rattle.day_pools.proofs.side_pool.Goals as goal
 
-pub line_count-n-requires : goal.line_count-n-requires
-line_count-n-requires c = omega (arith, c.requires.0.header.length_least)
+pub line_count-k-end-requires : goal.line_count-k-end-requires
+line_count-k-end-requires c = omega (arith, c.requires.0.header.length_least)
 
 pub loop-k-init : goal.loop-k-init
-loop-k-init c =
-    (omega arith, c.empty_pool-pool.ensures ∙ no_pool_lem (side_part (settled_day c.args.day.now) c.args.sd))
+loop-k-init c = c.empty_pool-pool.ensures ∙ no_pool_lem (side_part (settled_day c.args.day.now) c.args.sd)
 
 pub side_part-requires : goal.side_part-requires
 side_part-requires c =
-    (c.requires.0, omega (arith, c.line_count-n.ensures), c.requires.1)
+    (c.requires.0, omega (arith, c.line_count-k-end.ensures), c.requires.1)
 
 pub pool_add-pool-requires : goal.pool_add-pool-requires
 pool_add-pool-requires c =
     let day = c.args.day.now in
     side_addable (settled_day day) c.args.sd (settled_sized day c.requires.0) c.loop-k.k
-    (omega (arith, c.line_count-n.ensures)) _ _ c.loop-k.invariant.1 c.side_part.ensures
+    (omega (arith, c.line_count-k-end.ensures)) _ _ c.loop-k.invariant c.side_part.ensures
 
 pub loop-k-preserved : goal.loop-k-preserved
 loop-k-preserved c =
-    let side-next' = side_next (settled_day c.args.day.now) c.args.sd c.loop-k.k _ _ _
-    c.loop-k.invariant.1 c.side_part.ensures c.pool_add-pool.ensures in
-    (omega arith, side-next')
+    side_next (settled_day c.args.day.now) c.args.sd c.loop-k.k _ _ _
+    c.loop-k.invariant c.side_part.ensures c.pool_add-pool.ensures
 
 pub returns : goal.returns
 returns c =
     side_whole (settled_day c.args.day.now) c.args.sd _ c.loop-k.k _
-    c.line_count-n.ensures c.loop-k.invariant.0 c.loop-k-test.false c.loop-k.invariant.1
+    c.line_count-k-end.ensures c.loop-k.auto.k-end c.loop-k-test.false c.loop-k.invariant

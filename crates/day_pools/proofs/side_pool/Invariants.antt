@@ -12,7 +12,4 @@ use Rattle.day_pools.proofs.Laws.{side_addable, side_next, side_whole}
 use Rattle.day_pools.proofs.side_pool.Given as goal
 
 abbrev pub invariant-loop-k : goal.invariant-loop-k
-invariant-loop-k l = (l.k ≤ l.n) × (l.pool ≡ pool_to l.k (side_part (settled_day l.day) l.sd))
-
-abbrev pub decreases-loop-k : goal.decreases-loop-k
-decreases-loop-k l = l.n - l.k
+invariant-loop-k l = l.pool ≡ pool_to l.k (side_part (settled_day l.day) l.sd)

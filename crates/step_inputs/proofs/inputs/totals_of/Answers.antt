@@ -7,28 +7,28 @@ use Rattle.step_inputs.proofs.inputs.totals_of.Goals as goal
 
 pub narrow_row-requires : goal.narrow_row-requires
 narrow_row-requires c =
-    pricing_narrow _ c.args.line.now c.requires.1 _ c.pricing_totals.ensures
+    pricing_narrow _ c.args.line.now c.requires _ c.pricing_totals.ensures
 
 pub narrow_row-requires-2 : goal.narrow_row-requires-2
 narrow_row-requires-2 c =
-    operating_narrow _ c.args.line.now c.requires.1 _ c.operating_totals.ensures
+    operating_narrow _ c.args.line.now c.requires _ c.operating_totals.ensures
 
 pub narrow-requires : goal.narrow-requires
 narrow-requires c =
     let line = c.args.line.now in
-    let actual-is' = actual_is _ line c.requires.1 _ _ c.actuals.ensures c.effective_actual.ensures in
-    actual_narrow _ line c.requires.1 _ actual-is'
+    let actual-is' = actual_is _ line c.requires _ _ c.actuals.ensures c.effective_actual.ensures in
+    actual_narrow _ line c.requires _ actual-is'
 
 pub greatest_break-requires : goal.greatest_break-requires
 greatest_break-requires c =
-    (c.requires.0, accepted_bids _ _ c.requires.1)
+    (search rules, accepted_bids _ _ c.requires)
 
 pub returns : goal.returns
 returns c =
     let line = c.args.line.now in
-    let actual-is' = actual_is _ line c.requires.1 _ _ c.actuals.ensures
+    let actual-is' = actual_is _ line c.requires _ _ c.actuals.ensures
     c.effective_actual.ensures in
-    totals_are _ line c.requires.1 _ _ _ _ _ _ _ _ _ _
+    totals_are _ line c.requires _ _ _ _ _ _ _ _ _ _
     c.side.ensures
     c.accreditation.ensures
     c.accredited_row.ensures c.hedge.ensures

@@ -1,0 +1,84 @@
+// Line k of an accepted day with what its steps share, and its steps, put together as `Step`s.
+ghost use Rattle.std.specs.Prelude.{◌≡◌, ◌<◌};
+ghost use Rattle.rules.specs.Layout.{line_count};
+ghost use Rattle.rules.specs.Days.{step_of};
+ghost use Rattle.laws.specs.Accepted.{AcceptedDay};
+ghost use Rattle.cutter_cursors.specs.Sweep.{far};
+ghost use Rattle.cutter_prices.specs.Step.{slots_of};
+ghost use Rattle.step_inputs.specs.Inputs.{market_of, StepReady};
+ghost use Rattle.step_inputs.specs.Ready.{LineReady, PastHedge};
+
+use crate::inputs::{LineTotals, Market, step_with, totals_of};
+use cutter::positions::Position;
+use cutter::read_step::{flag_row, price_row};
+use cutter_prices::{Slots, step_rows};
+use layout::header::{Line, line_of};
+use line_quantities::in_force::day_table;
+use rules::{Cut, Step};
+use step_terms::paid_row;
+
+#[derive(Clone, Copy)]
+pub struct DayLine<'a> {
+    pub day: &'a [u8],
+    pub k: usize,
+    pub bytes: &'a Line,
+    pub market: Market,
+    pub totals: LineTotals,
+    ghost ready: { LineReady day.now k bytes.now totals },
+    ghost market_is: { market ≡ market_of day.now },
+}
+
+impl<'a> DayLine<'a> {
+    pub fn new(day: &'a [u8], k: usize, market: Market) -> Self
+        requires { AcceptedDay day.now × (k < line_count day.now) × (market ≡ market_of day.now) }
+        ensures { (result.day.now ≡ day.now) × (result.k ≡ k) × (result.market ≡ market) }
+    {
+        let bytes = line_of(day, k);
+        DayLine {
+            day,
+            k,
+            bytes,
+            market,
+            totals: totals_of(bytes, day_table(day, k, bytes)),
+        }
+    }
+
+    // Step j, from what the cutter answers for the line; `lower` is the end before.
+    pub fn step_at(&self, cut: &Cut, lower: u32, j: usize) -> Step
+        requires { StepReady self.now.day.now self.now.k self.now.market self.now.totals cut.now.ends cut.now.prices cut.now.flags lower j }
+        ensures { result ≡ step_of self.now.day.now self.now.k j }
+    {
+        let upper = cut.ends[j];
+        let t = self.totals;
+        step_with(
+            self.market,
+            t,
+            lower,
+            upper,
+            price_row(&cut.prices, j),
+            flag_row(cut.flags, j),
+            paid_row(t.accredited, t.hedge, upper),
+        )
+    }
+
+    // The step before which the sweep over the line stands, where it ends past the hedge: it is paid in each schedule in which its line is
+    // accredited.
+    pub fn step_here(&self, slots: Slots, at: Position) -> Step
+        requires { PastHedge self.now.bytes.now at.step at.places at.lower at.gap × (at.gap < far) × (slots ≡ slots_of self.now.bytes.now) }
+        ensures { result ≡ step_of self.now.day.now self.now.k at.step }
+    {
+        let upper = at.lower + 1 + at.gap;
+        let line = self.bytes;
+        let rows = step_rows(line, slots, at.places, upper);
+        let t = self.totals;
+        step_with(
+            self.market,
+            t,
+            at.lower,
+            upper,
+            rows.price,
+            rows.flag,
+            t.accredited,
+        )
+    }
+}
