@@ -21,7 +21,6 @@ use Rattle.rules.specs.declared.View.{View}
 use Rattle.laws.specs.Folds.{or_else_both, refuse_zero}
 use Rattle.laws.specs.Accepted.{accepted_day, accepted_line_at}
 use Rattle.cutter.specs.Ends.{count_some, count_most}
-use Rattle.view.specs.declared.line_views.StepViews.{StepViews}
 use Rattle.view.specs.Figures.{fault_none}
 
 -- what the step view answers for the first n steps of line k
@@ -33,7 +32,13 @@ views_to d k (suc n) = views_to d k n ++ (view_answer d k n ∷ [])
 unfoldable pub line_views : List ℕ → ℕ → List View
 line_views d k = cond (eqb (view_fault d k 0) 0) (views_to d k (step_count (line_at d k))) []
 
--- the answer: the number of the view of its first step, how many views, and the lent places with these put into the first
+-- the answer: a number, how many views, and the lent places
+pub record StepViews : Type 0 where
+  pub number : ℕ
+  pub count : ℕ
+  pub views : List View
+
+-- the number of the view of its first step, how many views, and the lent places with these put into the first
 unfoldable pub line_answer : List ℕ → ℕ → List View → StepViews
 line_answer d k places =
     record {

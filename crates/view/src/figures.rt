@@ -1,11 +1,10 @@
 // The figures of one step, which the step view answers.
 ghost use Rattle.std.specs.Prelude.{◌≡◌, ◌-◌, ◌<◌};
 ghost use Rattle.rules.specs.Fold.{five};
-ghost use Rattle.rules.specs.Layout.{line_count, line_at, side};
+ghost use Rattle.rules.specs.Layout.{line_at, side};
 ghost use Rattle.rules.specs.Days.{settled_day};
 ghost use Rattle.rules.specs.Payments as paper;
 ghost use Rattle.rules.specs.Viewing.{view_of};
-ghost use Rattle.laws.specs.Accepted.{AcceptedDay};
 ghost use Rattle.step_inputs.specs.Inputs.{StepReady};
 ghost use Rattle.step_payments.specs.Sizes.{Sized};
 ghost use Rattle.step_payments.specs.Amounts.{minus_of};
@@ -13,11 +12,11 @@ ghost use Rattle.step_pool.specs.Amounts.{changes_on, final_on};
 ghost use Rattle.day_pools.specs.Lines.{PoolFor, Payable};
 ghost use Rattle.view.specs.Figures.{view_from};
 
-use rules::{Step, View};
+use rules::{Cut, Step, View};
 use step_changes::rates::rates;
 use step_finals::final_shares::shares_of;
 use step_finals::finals::final_rows;
-use step_inputs::inputs::{LineTotals, Market, step_at};
+use step_inputs::day_line::DayLine;
 use step_matching::matches::{match_table, ten_matches};
 use step_payments::amounts::Money;
 use step_payments::given_back::{modified_minus, revised_minus};
@@ -49,9 +48,10 @@ fn final_minus(
     ensures { result ≡ five (minus_of (final_on x claw p)) }
 {
     if claw == 0 {
-        return v.minus;
+        v.minus
+    } else {
+        final_rows(x, shares_of(p), v, revised, modified)
     }
-    final_rows(x, shares_of(p), v, revised, modified)
 }
 
 // The payments of a step, from C. All four kinds pay the same.
@@ -88,12 +88,6 @@ fn payments_on(x: Step, c: [u32; 5], claw: u32, p: SidePool) -> StepPayments
     }
 }
 
-fn width_of(lower: u32, upper: u32) -> u32
-    ensures { result ≡ upper - lower }
-{
-    numbers::saturating_sub(upper, lower)
-}
-
 // All figures of a step.
 pub fn figures(x: Step, claw: u32, p: SidePool) -> View
     requires { (Sized x) × (Payable x claw p) }
@@ -120,7 +114,7 @@ pub fn figures(x: Step, claw: u32, p: SidePool) -> View
         finals,
         number: 0,
         end: x.upper,
-        width: width_of(x.lower, x.upper),
+        width: x.upper.saturating_sub(x.lower),
         actual: q.actual,
         price,
         flag,
@@ -134,23 +128,12 @@ pub fn figures(x: Step, claw: u32, p: SidePool) -> View
     }
 }
 
-// The view of step j of line k, from what its line and its side have worked out once.
-pub fn step_view(
-    day: &[u8],
-    k: usize,
-    m: Market,
-    t: LineTotals,
-    ends: &[u32; 56],
-    prices: &[u32; 280],
-    flags: [u64; 5],
-    lower: u32,
-    j: usize,
-    p: SidePool,
-) -> View
-    requires { (AcceptedDay day.now) × (k < line_count day.now) × (StepReady day.now k m t ends.now prices.now flags lower j)
-        × (PoolFor (settled_day day.now) (side (line_at day.now k)) p) }
-    ensures { result ≡ view_of day.now k j }
+// The view of step j of a line, from what the cutter answers for the line and the pool of its side; `lower` is the end before.
+pub fn step_view(line: &DayLine<'_>, cut: &Cut, lower: u32, j: usize, p: SidePool) -> View
+    requires { (StepReady line.now.day.now line.now.k line.now.market line.now.totals cut.now.ends cut.now.prices cut.now.flags lower j)
+        × (PoolFor (settled_day line.now.day.now) (side (line_at line.now.day.now line.now.k)) p) }
+    ensures { result ≡ view_of line.now.day.now line.now.k j }
 {
-    let x = step_at(day, k, m, t, ends, prices, flags, lower, j);
-    figures(x, m.clawback, p)
+    let x = line.step_at(cut, lower, j);
+    figures(x, line.market.clawback, p)
 }

@@ -3,19 +3,22 @@
 #![tactic(auto)]
 
 mod figures;
-pub mod lent_views;
 pub mod line_views;
 
-ghost use Rattle.std.specs.Prelude.{◌≡◌, ◌<◌, ◌∷◌, get_or};
-ghost use Rattle.rules.specs.Viewing.{view_refused, view_answer};
+ghost use Rattle.std.specs.Prelude.{◌≡◌, ◌<◌, ◌∷◌, get_or, IfOk};
+ghost use Rattle.rules.specs.Refusals.{view_fault};
+ghost use Rattle.rules.specs.Viewing.{view_of, view_refused, view_answer};
+ghost use Rattle.refusals.specs.Numbers.{fault_of};
 
 use crate::figures::step_view;
-use day::day_number;
+use cutter::steps::steps;
+use day::check_day;
 use day_pools::pool_for;
-use layout::header::{line_count, line_of};
-use line_quantities::in_force::day_table;
+use layout::header::line_count;
+use refusals::Refusal;
 use rules::{Excess, View};
-use step_inputs::inputs::{market_of, totals_of};
+use step_inputs::day_line::DayLine;
+use step_inputs::inputs::market_of;
 
 // A refused view: the number and zeros.
 pub fn refused(number: u32) -> View
@@ -51,45 +54,34 @@ fn lower_end(ends: &[u32; 56], j: usize) -> u32
     requires { j < 56 }
     ensures { result ≡ get_or (0 ∷ ends.now) j 0 }
 {
-    if j == 0 {
-        return 0;
+    if j == 0 { 0 } else { ends[j - 1] }
+}
+
+// The view of a step, or why there is none.
+fn viewed(day: &[u8], k: usize, step: usize) -> Result<View, Refusal>
+    ensures number { fault_of result ≡ view_fault day.now k step }
+    ensures ok { IfOk result (λ v. v ≡ view_of day.now k step) }
+{
+    check_day(day)?;
+    if line_count(day) <= k {
+        return Err(Refusal::NoLine);
     }
-    ends[j - 1]
+    let line = DayLine::new(day, k, market_of(day));
+    let bytes = line.bytes;
+    let cut = steps(bytes);
+    if cut.count as usize <= step {
+        return Err(Refusal::NoStep);
+    }
+    let pool = pool_for(day, line.market, line.totals.side);
+    Ok(step_view(&line, &cut, lower_end(&cut.ends, step), step, pool))
 }
 
 // The step view, for any bytes and any two numbers.
 pub fn view(day: &[u8], line: usize, step: usize) -> View
     ensures { result ≡ view_answer day.now line step }
 {
-    let number = day_number(day);
-    if number != 0 {
-        return refused(number);
+    match viewed(day, line, step) {
+        Ok(view) => view,
+        Err(refusal) => refused(u32::from(refusal)),
     }
-    if line_count(day) <= line {
-        return refused(16);
-    }
-    let part = line_of(day, line);
-    let cut = cutter::steps::steps(part);
-    let count = cut.count as usize;
-    if count <= step {
-        return refused(17);
-    }
-    let ends = cut.ends;
-    let prices = cut.prices;
-    let flags = cut.flags;
-    let m = market_of(day);
-    let t = totals_of(part, day_table(day, line, part));
-    let p = pool_for(day, m, t.side);
-    step_view(
-        day,
-        line,
-        m,
-        t,
-        &ends,
-        &prices,
-        flags,
-        lower_end(&ends, step),
-        step,
-        p,
-    )
 }

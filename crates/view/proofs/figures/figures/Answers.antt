@@ -10,5 +10,5 @@ payments_on-y-requires c =
 pub returns : goal.returns
 returns c =
     let paid = c.payments_on-y.ensures in
-    figures_are _ _ _ _ _ _ _ _ _ _ c.width_of.ensures c.quantities_on-q.ensures
+    figures_are _ _ _ _ _ _ _ _ _ _ c.saturating_sub.ensures c.quantities_on-q.ensures
     c.ten_matches.ensures paid.0 paid.1 paid.2 paid.3

@@ -15,8 +15,8 @@ final_rows-requires c =
     let shares = c.shares_of.ensures in
     (shares_fit c.args.x c.args.p shares.0 shares.1 r.0 (r.1.pooled c.if-claw-eq0.false), r.2, r.3, r.4)
 
-pub returns : goal.returns
-returns c =
+pub returns-else-claw-eq0 : goal.returns-else-claw-eq0
+returns-else-claw-eq0 c =
     let g = c.args in
     let shares = c.shares_of.ensures in
     shares_final g.x g.claw g.p c.if-claw-eq0.false shares.0 shares.1 c.final_rows.ensures
