@@ -43,26 +43,19 @@ fn put_lines(day: &[u8], paid: &[i64; 320], counts: &[u32; 64], book: &mut [u8])
     requires { (AcceptedDay day.now) × (PaidDay (settled_day day.now) paid.now counts.now) × (book_length (line_count day.now) ≤ length book.old) }
     ensures { book.new ≡ sets book.old 96 (joined (line_count day.now) (line_entry (settled_day day.now))) }
 {
-    let n = line_count(day);
-    let mut k = 0;
-    while k < n {
+    for k in 0..line_count(day) {
         put_line(day, k, paid, counts, book, entry_at(k));
-        k += 1;
     }
 }
 
 // The book of an accepted day.
-pub fn put_book(day: &[u8], book: &mut [u8]) -> u32
+pub fn put_book(day: &[u8], book: &mut [u8])
     requires { (AcceptedDay day.now) × (book_length (line_count day.now) ≤ length book.old) }
-    ensures value { result ≡ 0 }
-    ensures book_after { book.new ≡ book_of (settled_day day.now) ++ drop (book_length (line_count day.now)) book.old }
+    ensures { book.new ≡ book_of (settled_day day.now) ++ drop (book_length (line_count day.now)) book.old }
 {
     let mut paid = [UNPAID; 320];
     let mut counts = [0; 64];
-    let x = day_paid(day, &mut paid, &mut counts);
-    let t = x.t;
-    let a = x.a;
+    let totals = day_paid(day, &mut paid, &mut counts);
     put_lines(day, &paid, &counts, book);
-    put_front(book, count_word(day), t, a);
-    0
+    put_front(book, count_word(day), totals.t, totals.a);
 }

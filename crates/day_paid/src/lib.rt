@@ -41,10 +41,7 @@ pub const UNPAID: i64 = 1000000000000000000;
 fn pool_of(side: u32, injection: SidePool, withdrawal: SidePool) -> SidePool
     ensures { result ≡ pool_in side injection withdrawal }
 {
-    if side == 0 {
-        return injection;
-    }
-    withdrawal
+    if side == 0 { injection } else { withdrawal }
 }
 
 // Five payments put from place `at` on.
@@ -133,20 +130,16 @@ fn keep_lines(day: &[u8], m: Market, counts: &mut [u32; 64]) -> KeptDay
     ensures kept_all { KeptAll day.now result }
     ensures counts_after { counts.new ≡ sets counts.old 0 (list_to (line_count day.now) (settled_day day.now).count) }
 {
-    let n = line_count(day);
     let mut pools = Pools {
         injection: empty_pool(),
         withdrawal: empty_pool(),
     };
     let mut lines = [nothing_kept(); 64];
-    let mut k = 0;
-    while k < n {
+    for k in 0..line_count(day) {
         let x = line_pool(day, k, m);
-        let pool = x.pool;
-        pools = pools_with(pools, side(line_of(day, k)), pool);
+        pools = pools_with(pools, side(line_of(day, k)), x.pool);
         lines[k] = kept_of(x);
         counts[k] = x.count;
-        k += 1;
     }
     KeptDay { pools, lines }
 }
@@ -178,19 +171,16 @@ fn pay_kept(day: &[u8], m: Market, x: KeptDay, paid: &mut [i64; 320]) -> Money
     ensures value { result ≡ money_to (line_count day.now) (line_money (settled_day day.now)) }
     ensures paid_after { paid.new ≡ sets paid.old 0 (payments_to (settled_day day.now) (line_count day.now)) }
 {
-    let n = line_count(day);
     let pools = x.pools;
     let lines = x.lines;
     let mut total = Money {
         plus: [0; 5],
         minus: [0; 5],
     };
-    let mut k = 0;
-    while k < n {
+    for k in 0..line_count(day) {
         let money = kept_money(day, k, m, pools, lines[k]);
         put_payments(paid, 5 * k, signed_money(money));
         total = money_add(total, money);
-        k += 1;
     }
     total
 }
@@ -214,10 +204,9 @@ fn pay_line(day: &[u8], k: usize, m: Market, paid: &mut [i64; 320], counts: &mut
     ensures counts_after { counts.new ≡ set counts.old k ((settled_day day.now).count k) }
 {
     let x = line_initial(day, k, m);
-    let money = x.money;
-    put_payments(paid, 5 * k, signed_money(money));
+    put_payments(paid, 5 * k, signed_money(x.money));
     counts[k] = x.count;
-    money
+    x.money
 }
 
 // The same for every line, and their money in all. The loop maintains that the first k are paid, and that `total` is their money.
@@ -227,16 +216,13 @@ fn pay_initial(day: &[u8], m: Market, paid: &mut [i64; 320], counts: &mut [u32; 
     ensures paid_after { paid.new ≡ sets paid.old 0 (payments_to (settled_day day.now) (line_count day.now)) }
     ensures counts_after { counts.new ≡ sets counts.old 0 (list_to (line_count day.now) (settled_day day.now).count) }
 {
-    let n = line_count(day);
     let mut total = Money {
         plus: [0; 5],
         minus: [0; 5],
     };
-    let mut k = 0;
-    while k < n {
+    for k in 0..line_count(day) {
         let money = pay_line(day, k, m, paid, counts);
         total = money_add(total, money);
-        k += 1;
     }
     total
 }

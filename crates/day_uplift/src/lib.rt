@@ -4,28 +4,18 @@
 
 ghost use Rattle.std.specs.Prelude.{◌≡◌};
 ghost use Rattle.rules.specs.Uplift.{uplift_answer};
+ghost use Rattle.day_uplift.specs.Answers.{answer_of};
 
-use day::day_number;
+use day::check_day;
 use day_paid::settled_totals;
 use day_shares::shares::shares_of;
-use rules::Uplift;
+use refusals::Refusal;
 
-// The uplift of a day, for any bytes. Refused, the shares are 0.
-pub fn uplift(day: &[u8]) -> Uplift
-    ensures { result ≡ uplift_answer day.now }
+// The uplift of a day, for any bytes.
+pub fn uplift(day: &[u8]) -> Result<[i64; 5], Refusal>
+    ensures { answer_of result ≡ uplift_answer day.now }
 {
-    let number = day_number(day);
-    if number != 0 {
-        return Uplift {
-            shares: [0; 5],
-            number,
-        };
-    }
+    check_day(day)?;
     let totals = settled_totals(day);
-    let t = totals.t;
-    let a = totals.a;
-    Uplift {
-        shares: shares_of(t, a),
-        number: 0,
-    }
+    Ok(shares_of(totals.t, totals.a))
 }

@@ -9,39 +9,39 @@ ghost use Rattle.rules.specs.Refusals.{day_fault};
 ghost use Rattle.text.specs.Put.{Written};
 ghost use Rattle.text_steps.specs.Text.{place_text, line_head, line_steps, part_of, steps_text};
 
-use day::day_number;
+use day::check_day;
 use layout::fields::{participant, point, side};
-use layout::header::{line_count, line_of};
+use layout::header::{Line, line_count};
 use rules::View;
 use std::io;
 use std::io::Write;
+use step_inputs::day_line::DayLine;
+use step_inputs::inputs::market_of;
 use text::digits::{put_byte, put_bytes, put_decimal};
 use text::refused::put_refused;
 use text_lines::{put_ids, put_side_steps};
 use text_view::{put_excess, put_view};
-use view::line_views::accepted_views;
+use view::line_views::put_views;
 use view::refused;
 
 // The bytes that the longest part takes: a line's heading, 56 steps and the excess.
 pub const PART_MOST: usize = 93 + 56 * 1587 + 263;
 
-// The first `count` of the lent views, as steps. The loop maintains that the first j are put.
-fn put_steps(out: &mut [u8], at: usize, views: [View; 56], count: usize) -> usize
-    requires { (count ≤ 56) × (at + 1587 * count ≤ length out.old) }
-    ensures { Written (1587 * count) out.old at (joined count (place_text views)) result out.new }
+// The lent views, as steps. The loop maintains that the first j are put.
+fn put_steps(out: &mut [u8], at: usize, views: &[View]) -> usize
+    requires { (length views.now ≤ 56) × (at + 1587 * length views.now ≤ length out.old) }
+    ensures { Written (1587 * length views.now) out.old at (joined (length views.now) (place_text views.now)) result out.new }
 {
     let mut p = at;
-    let mut j = 0;
-    while j < count {
+    for j in 0..views.len() {
         p = put_view(out, p, j, views[j]);
-        j += 1;
     }
     p
 }
 
 // The heading of line k, whose bytes are lent with its count of steps.
-fn put_line_head(out: &mut [u8], at: usize, k: usize, line: &[u8], count: u32) -> usize
-    requires { (length line.now ≡ 660) × (count ≡ step_count line.now) × (at + 93 ≤ length out.old) }
+fn put_line_head(out: &mut [u8], at: usize, k: usize, line: &Line, count: u32) -> usize
+    requires { (count ≡ step_count line.now) × (at + 93 ≤ length out.old) }
     ensures { Written 93 out.old at (line_head k line.now) result out.new }
 {
     let a = put_bytes(out, at, b"line ");
@@ -57,16 +57,13 @@ fn put_line(out: &mut [u8], at: usize, day: &[u8], k: usize) -> usize
     requires { (day_fault day.now ≡ 0) × (k < line_count day.now) × (at + 89228 ≤ length out.old) }
     ensures { Written 89228 out.old at (line_steps day.now k) result out.new }
 {
-    let line = line_of(day, k);
-    let none = refused(0);
-    let answer = accepted_views(day, k, [none; 56]);
-    let views = answer.views;
-    let count = answer.count;
-    let a = put_line_head(out, at, k, line, count as u32);
-    let b = put_steps(out, a, views, count);
-    let first = views[0];
-    let excess = first.excess;
-    put_excess(out, b, excess)
+    let line = DayLine::new(day, k, market_of(day));
+    let bytes = line.bytes;
+    let mut views = [refused(0); 56];
+    let count = put_views(&line, &mut views);
+    let a = put_line_head(out, at, k, bytes, count as u32);
+    let b = put_steps(out, a, &views[..count]);
+    put_excess(out, b, views[0].excess)
 }
 
 // Part k of a day's text, from the first of the lent bytes on: line k, all its steps and its excess; of a refused day the refusal, which is
@@ -78,17 +75,22 @@ pub fn part(day: &[u8], k: usize, out: &mut [u8]) -> usize
     if out.len() < PART_MOST {
         return 0;
     }
-    let number = day_number(day);
-    if number != 0 {
-        if k != 0 {
-            return 0;
+    match check_day(day) {
+        Ok(()) => {
+            if line_count(day) <= k {
+                0
+            } else {
+                put_line(out, 0, day, k)
+            }
         }
-        return put_refused(out, 0, number);
+        Err(refusal) => {
+            if k == 0 {
+                put_refused(out, 0, u32::from(refusal))
+            } else {
+                0
+            }
+        }
     }
-    if line_count(day) <= k {
-        return 0;
-    }
-    put_line(out, 0, day, k)
 }
 
 // Prints line k of an accepted day by way of the lent bytes.
@@ -105,23 +107,22 @@ fn print_lines<W: Write>(output: &mut W, day: &[u8], out: &mut [u8]) -> io::Resu
     requires { (day_fault day.now ≡ 0) × (89228 ≤ length out.old) }
     ensures { OnOk result (Appends (W.contents output.old) (W.contents output.new) (joined (line_count day.now) (line_steps day.now))) }
 {
-    let n = line_count(day);
-    let mut k = 0;
-    while k < n {
+    for k in 0..line_count(day) {
         print_line(output, day, k, out)?;
-        k += 1;
     }
     Ok(())
 }
 
-// Prints the text of a day: of a refused day its part 0, which is the refusal, else its lines. The day is checked once.
+// Prints the text of a day: the refusal, or its lines. The day is checked once.
 pub fn print<W: Write>(output: &mut W, day: &[u8]) -> io::Result<()>
     ensures { OnOk result (Appends (W.contents output.old) (W.contents output.new) (steps_text day.now)) }
 {
     let mut out = [0u8; PART_MOST];
-    if day_number(day) != 0 {
-        let end = part(day, 0, &mut out);
-        return output.write_all(&out[..end]);
+    match check_day(day) {
+        Ok(()) => print_lines(output, day, &mut out),
+        Err(refusal) => {
+            let end = put_refused(&mut out, 0, u32::from(refusal));
+            output.write_all(&out[..end])
+        }
     }
-    print_lines(output, day, &mut out)
 }

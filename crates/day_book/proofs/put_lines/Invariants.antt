@@ -13,7 +13,4 @@ use Rattle.day_book.proofs.Laws.{book_next, lines_whole}
 use Rattle.day_book.proofs.put_lines.Given as goal
 
 abbrev pub invariant-loop-k : goal.invariant-loop-k
-invariant-loop-k l = (l.k ≤ l.n) × (length l.book ≡ length l.initial.book) × (Written (56 * l.k) l.initial.book 96 (joined l.k (line_entry (settled_day l.day))) (entry_at l.k) l.book)
-
-abbrev pub decreases-loop-k : goal.decreases-loop-k
-decreases-loop-k l = l.n - l.k
+invariant-loop-k l = (length l.book ≡ length l.initial.book) × (Written (56 * l.k) l.initial.book 96 (joined l.k (line_entry (settled_day l.day))) (entry_at l.k) l.book)

@@ -1,7 +1,7 @@
 -- `day_paid::kept_money` meets its contract: by whether a step of the line takes something back.
 use native.Mathlib.Omega.{arith}
 use borrow.Author.Rules.{rules}
-use Rattle.day_pools.proofs.Laws.{line_lies, lent_length}
+use Rattle.step_inputs.proofs.Lines.{line_lies, lent_length}
 use Rattle.day_paid.specs.Lines.{line_pool_lem}
 use Rattle.day_paid.proofs.Laws.{line_money_lem}
 use Rattle.day_paid.proofs.Kept.{untaken_money}

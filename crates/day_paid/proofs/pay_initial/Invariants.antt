@@ -15,8 +15,5 @@ use Rattle.day_paid.proofs.Laws.{total_addable, lines_next, lines_paid}
 use Rattle.day_paid.proofs.pay_initial.Given as goal
 
 abbrev pub invariant-loop-k : goal.invariant-loop-k
-invariant-loop-k l = (l.k ≤ l.n) × (l.total ≡ money_to l.k (line_money (settled_day l.day))) × (l.paid ≡ sets l.initial.paid 0 (payments_to (settled_day l.day) l.k))
+invariant-loop-k l = (l.total ≡ money_to l.k (line_money (settled_day l.day))) × (l.paid ≡ sets l.initial.paid 0 (payments_to (settled_day l.day) l.k))
     × (l.counts ≡ sets l.initial.counts 0 (list_to l.k (settled_day l.day).count))
-
-abbrev pub decreases-loop-k : goal.decreases-loop-k
-decreases-loop-k l = l.n - l.k

@@ -13,52 +13,52 @@ use Rattle.day_paid.specs.Paid.{payments_to, payments_none, payments_next}
 use Rattle.day_paid.proofs.Laws.{money_steps, money_signable, total_addable, lines_next, line_payments_lem, all_paid}
 use Rattle.day_paid.proofs.pay_kept.Goals as goal
 
-pub line_count-n-requires : goal.line_count-n-requires
-line_count-n-requires c = omega (arith, c.requires.0.header.length_least)
+pub line_count-k-end-requires : goal.line_count-k-end-requires
+line_count-k-end-requires c = omega (arith, c.requires.0.header.length_least)
 
 pub loop-k-init : goal.loop-k-init
 loop-k-init c =
     let y = settled_day c.args.day.now in
-    (search rules, no_money_lem (line_money y), payments_none y _)
+    (no_money_lem (line_money y), payments_none y _)
 
 pub offset_bounds-lines-k : goal.offset_bounds-lines-k
 offset_bounds-lines-k c =
-    record { fits = omega (arith, c.line_count-n.ensures, c.requires.0.header.count_most) }
+    record { fits = omega (arith, c.line_count-k-end.ensures, c.requires.0.header.count_most) }
 
 pub bounds-lines-k : goal.bounds-lines-k
 bounds-lines-k c =
-    omega (arith, c.line_count-n.ensures, c.requires.0.header.count_most)
+    omega (arith, c.line_count-k-end.ensures, c.requires.0.header.count_most)
 
 pub kept_money-money-requires : goal.kept_money-money-requires
 kept_money-money-requires c = (
   c.requires.0,
-  omega (arith, c.line_count-n.ensures),
+  omega (arith, c.line_count-k-end.ensures),
   c.requires.1,
   c.requires.2,
   c.requires.3.pools,
-  c.requires.3.lines c.loop-k.k (omega (arith, c.line_count-n.ensures)) _,
+  c.requires.3.lines c.loop-k.k (omega (arith, c.line_count-k-end.ensures)) _,
 )
 
 pub overflow_mul-k : goal.overflow_mul-k
 overflow_mul-k c =
-    record { fits = omega (arith, c.line_count-n.ensures, c.requires.0.header.count_most) }
+    record { fits = omega (arith, c.line_count-k-end.ensures, c.requires.0.header.count_most) }
 
 pub signed_money-requires : goal.signed_money-requires
 signed_money-requires c =
     let day = c.args.day.now in
     money_signable (settled_day day) c.loop-k.k (settled_sized day c.requires.0)
-    (omega (arith, c.line_count-n.ensures)) _
+    (omega (arith, c.line_count-k-end.ensures)) _
     (money_steps (settled_day day) c.loop-k.k _ c.kept_money-money.ensures)
 
 pub put_payments-requires : goal.put_payments-requires
 put_payments-requires c =
-    omega (arith, c.line_count-n.ensures, c.requires.0.header.count_most)
+    omega (arith, c.line_count-k-end.ensures, c.requires.0.header.count_most)
 
 pub money_add-total-requires : goal.money_add-total-requires
 money_add-total-requires c =
     let day = c.args.day.now in
     total_addable (settled_day day) c.loop-k.k (settled_sized day c.requires.0)
-    (omega (arith, c.line_count-n.ensures)) _ _ c.loop-k.invariant.1
+    (omega (arith, c.line_count-k-end.ensures)) _ _ c.loop-k.invariant.0
     c.kept_money-money.ensures
 
 pub loop-k-preserved : goal.loop-k-preserved
@@ -67,15 +67,14 @@ loop-k-preserved c =
     let k = c.loop-k.k in
     let paid' = line_payments_lem y k _ _ _ _ (money_steps y k _ c.kept_money-money.ensures)
     c.signed_money.ensures c.put_payments.ensures in (
-      search rules,
-      lines_next y k _ _ _ c.loop-k.invariant.1 c.kept_money-money.ensures c.money_add-total.ensures,
-      payments_next y k _ _ _ c.loop-k.invariant.2 paid',
+      lines_next y k _ _ _ c.loop-k.invariant.0 c.kept_money-money.ensures c.money_add-total.ensures,
+      payments_next y k _ _ _ c.loop-k.invariant.1 paid',
     )
 
 pub returns : goal.returns
 returns c =
     let whole =
     all_paid (settled_day c.args.day.now) c.loop-k.k _ _ _ _
-    c.line_count-n.ensures c.loop-k.invariant.0 c.loop-k-test.false
-    c.loop-k.invariant.1 c.loop-k.invariant.2 in
+    c.line_count-k-end.ensures c.loop-k.auto.k-end c.loop-k-test.false
+    c.loop-k.invariant.0 c.loop-k.invariant.1 in
     record { value = whole.0; paid_after = whole.1 }

@@ -14,7 +14,4 @@ use Rattle.day_paid.proofs.Laws.{money_steps, money_signable, total_addable, lin
 use Rattle.day_paid.proofs.pay_kept.Given as goal
 
 abbrev pub invariant-loop-k : goal.invariant-loop-k
-invariant-loop-k l = (l.k ≤ l.n) × (l.total ≡ money_to l.k (line_money (settled_day l.day))) × (l.paid ≡ sets l.initial.paid 0 (payments_to (settled_day l.day) l.k))
-
-abbrev pub decreases-loop-k : goal.decreases-loop-k
-decreases-loop-k l = l.n - l.k
+invariant-loop-k l = (l.total ≡ money_to l.k (line_money (settled_day l.day))) × (l.paid ≡ sets l.initial.paid 0 (payments_to (settled_day l.day) l.k))

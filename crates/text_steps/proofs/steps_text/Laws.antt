@@ -3,7 +3,8 @@ use Prim.Native.Nat.{ℕ, zero, suc, ◌≤◌, ◌<◌}
 use native.Mathlib.Omega.{arith}
 use mathlib.Core.Path.{◌≡◌, refl, sym, ◌∙◌, ap}
 use mathlib.Core.List.{List, [], ◌∷◌, ◌++◌}
-use lib.ListN.{length, get_or}
+use lib.ListN.{length, get_or, take}
+use lib.Seq.{sets}
 use borrow.Author.Tests.{lt-ltb, le-ltb, eq-eqb, ne_eqb}
 use Rattle.rules.specs.Fold.{joined}
 use Rattle.rules.specs.Layout.{word, line_count, line_at}
@@ -15,10 +16,10 @@ use Rattle.rules.specs.declared.View.{View}
 use Rattle.text.specs.Put.{joined_same}
 use Rattle.laws.specs.Folds.{joined_none, joined_more}
 use Rattle.std.proofs.Common.{◌+◌, subst, Option}
+use Rattle.std.proofs.lemmas.List.{get_or-take}
 use Rattle.std.specs.Io.KnownBytes.{Appends}
 use Rattle.std.proofs.KnownBytes.{Appends-nil, Appends-trans}
-use Rattle.view.specs.declared.line_views.StepViews.{StepViews}
-use Rattle.view.specs.LineViews.{line_answer, first_good, views_counted}
+use Rattle.view.specs.LineViews.{line_views, first_good, views_counted}
 use Rattle.view.specs.LineViews.{place_is as place-answered}
 use Rattle.text_lines.specs.Lines.{line_ids, side_steps}
 use Rattle.text_steps.specs.Text.{line_word, step_text, place_text, line_head, line_steps, steps_part, part_most, part_of, steps_text}
@@ -31,9 +32,9 @@ get_d_within (v ∷ l) zero a b h = refl
 get_d_within (v ∷ l) (suc j) a b h = get_d_within l j a b (omega arith)
 
 -- a place of a list of views
-pub place_is : (l : List View) (j : ℕ) (a : View) → length l ≡ 56 → j < 56 → view_text j (get_or l j a) ≡ place_text l j
+pub place_is : (l : List View) (j : ℕ) (a : View) → j < length l → view_text j (get_or l j a) ≡ place_text l j
 unfolding place_text
-place_is l j a e h = ap (view_text j) (get_d_within l j a (view_refused 0) (omega arith))
+place_is l j a h = ap (view_text j) (get_d_within l j a (view_refused 0) h)
 
 -- a place of a line's views
 step_is : (d : List ℕ) (k j : ℕ) (l : List View) → get_or l j (view_refused 0) ≡ view_answer d k j → place_text l j ≡ step_text d k j
@@ -47,19 +48,33 @@ unfolding line_head
 head_is k w e₀ e₁ e₂ e₃ = rw (e₀, e₁, e₂, e₃)
 
 -- a line of an accepted day, with its views
-module _ (d : List ℕ) (k : ℕ) (z : day_fault d ≡ 0) (l : k < line_count d) (places : List View) (r : StepViews) (e : r ≡ line_answer d k places) where
-  pub counted : (r.count ≡ step_count (line_at d k)) × (0 < r.count) × (r.count ≤ 56)
-  unfolding line_answer
-  counted = rw e (views_counted d k (sym (first_good d k z l)))
+module _ (d : List ℕ) (k : ℕ) (z : day_fault d ≡ 0) (l : k < line_count d) (places vs : List View) (n : ℕ) (ne : n ≡ length (line_views d k)) (ve : vs ≡ sets places 0 (line_views d k)) where
+  pub counted : (n ≡ step_count (line_at d k)) × (0 < n) × (n ≤ 56)
+  counted = rw ne (views_counted d k (sym (first_good d k z l)))
 
-  pub line_is : (w : List ℕ) (a : View) → w ≡ line_at d k → length places ≡ 56 → line_head k w ++ joined r.count (place_text r.views) ++ excess_row (get_or r.views 0 a).excess ≡ line_steps d k
-  unfolding line_steps line_answer
+  pub line_is : (w : List ℕ) (a : View) → w ≡ line_at d k → length places ≡ 56 → line_head k w ++ joined n (place_text vs) ++ excess_row (get_or vs 0 a).excess ≡ line_steps d k
+  unfolding line_steps
   line_is w a we long =
-      let n = step_count (line_at d k) in
+      let m = step_count (line_at d k) in
       let many = (views_counted d k (sym (first_good d k z l))).0 in
-      let there = place-answered d k places r.views (ap (λ (x : StepViews). x.views) e) (omega arith) in
-      let steps = joined_same n (place_text r.views) (step_text d k) (λ j h. step_is d k j r.views (there j (view_refused 0) (omega arith))) in
-      rw (we, counted.0, steps, there 0 a (omega (arith, counted.0, counted.1)))
+      let there = place-answered d k places vs ve (omega (arith, long)) in
+      let steps = joined_same m (place_text vs) (step_text d k) (λ j h. step_is d k j vs (there j (view_refused 0) (omega (arith, many)))) in
+      rw (we, counted.0, steps, there 0 a (omega (arith, counted.0, counted.1, many)))
+
+-- what is said of another name of the day and of the line
+pub counted_there : {d e : List ℕ} {k i n : ℕ} → e ≡ d → i ≡ k → n ≡ length (line_views e i) → n ≡ length (line_views d k)
+counted_there {d} {e} {k} {i} {n} p q h = subst (λ (x : List ℕ). n ≡ length (line_views x k)) p (subst (λ (y : ℕ). n ≡ length (line_views e y)) q h)
+
+pub placed_there : {d e : List ℕ} {k i : ℕ} {vs : List View} (places : List View) → e ≡ d → i ≡ k → vs ≡ sets places 0 (line_views e i) → vs ≡ sets places 0 (line_views d k)
+placed_there {d} {e} {k} {i} {vs} places p q h = subst (λ (x : List ℕ). vs ≡ sets places 0 (line_views x k)) p (subst (λ (y : ℕ). vs ≡ sets places 0 (line_views e y)) q h)
+
+pub line_there : {d e w : List ℕ} {k i : ℕ} → e ≡ d → i ≡ k → w ≡ line_at e i → w ≡ line_at d k
+line_there {d} {e} {w} {k} {i} p q h = subst (λ (x : List ℕ). w ≡ line_at x k) p (subst (λ (y : ℕ). w ≡ line_at e y) q h)
+
+-- the first places of a list of views, as text
+pub front_is : (n : ℕ) (l : List View) → joined n (place_text (take n l)) ≡ joined n (place_text l)
+unfolding place_text
+front_is n l = joined_same n (place_text (take n l)) (place_text l) (λ j h. ap (view_text j) (get_or-take n l j (view_refused 0) h))
 
 -- a part by its cases
 module _ (d : List ℕ) (k lent : ℕ) where
@@ -88,9 +103,9 @@ module _ (d : List ℕ) (k lent : ℕ) where
 
 -- the text that is printed, by its cases
 module _ (d : List ℕ) where
-  pub text_refused : {r : ℕ} → r ≡ day_fault d → (r ≡ 0 → ⊥) → (lent : ℕ) → part_most ≤ lent → part_of d 0 lent ≡ steps_text d
+  pub text_refused : {r : ℕ} → r ≡ day_fault d → (r ≡ 0 → ⊥) → refused_line r ≡ steps_text d
   unfolding steps_text
-  text_refused {r} e g lent h = sym (part_refused d 0 lent h e g refl) ∙ rw (← e, ne_eqb r 0 g)
+  text_refused {r} e g = rw (← e, ne_eqb r 0 g)
 
   pub text_accepted : day_fault d ≡ 0 → joined (line_count d) (line_steps d) ≡ steps_text d
   unfolding steps_text

@@ -1,5 +1,5 @@
 -- `text_steps::steps_text::put_steps` meets its contract: after j turns the first j steps are put.
-use Prim.Native.Nat.{◌*◌, ◌-◌, ◌≤◌}
+use Prim.Native.Nat.{◌*◌}
 use mathlib.Core.Path.{◌≡◌}
 use lib.ListN.{length}
 use Rattle.rules.specs.Fold.{joined}
@@ -8,7 +8,4 @@ use Rattle.text_steps.specs.Text.{place_text}
 use Rattle.text_steps.proofs.steps_text.put_steps.Given as goal
 
 abbrev pub invariant-loop-j : goal.invariant-loop-j
-invariant-loop-j l = (l.j ≤ l.count) × (length l.out ≡ length l.initial.out) × (Written (1587 * l.j) l.initial.out l.at (joined l.j (place_text l.views)) l.p l.out)
-
-abbrev pub decreases-loop-j : goal.decreases-loop-j
-decreases-loop-j l = l.count - l.j
+invariant-loop-j l = (length l.out ≡ length l.initial.out) × Written (1587 * l.j) l.initial.out l.at (joined l.j (place_text l.views)) l.p l.out

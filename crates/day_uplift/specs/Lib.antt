@@ -1,0 +1,2 @@
+-- What a result of the uplift call says.
+pub mod Answers
