@@ -10,7 +10,7 @@ use cutter_cursors::cursors::{Sweep, next_gap, passed, start};
 use layout::header::Line;
 
 // A gap that no break above an end has.
-const FAR: u32 = 1 << 31;
+pub const FAR: u32 = 1 << 31;
 
 // Before step `step`, counted from 0: its lower end and the gap from there to its upper end, FAR or more after the last step.
 #[derive(Clone, Copy)]

@@ -51,7 +51,7 @@ lower_by w h zero j a b = omega arith
 lower_by w h (suc i) zero a b = absurd (omega arith)
 lower_by w h (suc i) (suc j) a b = rises_mono (ends_rise w h) i j (omega arith) (omega arith)
 
-bit_most : (t : Bool) → bit t ≤ 1
+pub bit_most : (t : Bool) → bit t ≤ 1
 bit_most true = omega arith
 bit_most false = omega arith
 

@@ -4,7 +4,6 @@ ghost use Rattle.cutter_cursors.specs.Sweep.{far};
 ghost use Rattle.cutter.specs.Positions.{SweptAt};
 
 use cutter::positions::Position;
-use cutter_cursors::cursors::{next_gap, passed};
 use layout::header::Line;
 
 // After the step before which the sweep stands.
@@ -13,11 +12,5 @@ pub fn next(line: &Line, at: Position) -> Position
     ensures { SweptAt line.now result × (result.lower ≡ at.lower + 1 + at.gap) × (result.step ≡ at.step + 1) }
 {
     let end = at.lower + 1 + at.gap;
-    let places = passed(line, at.places, end);
-    Position {
-        places,
-        lower: end,
-        gap: next_gap(line, places, end),
-        step: at.step + 1,
-    }
+    at.passed(line, end)
 }

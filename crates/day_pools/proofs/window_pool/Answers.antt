@@ -50,11 +50,7 @@ with_mark-taking-requires c =
     let line = c.args.line.now in
     let inv = c.loop-slots.invariant in
     let on = c.goes_on.ensures.on c.loop-slots-test.true in
-    let takes = c.pool_with-x.ensures.1 ∙ ap takes_back c.step_here.ensures in (
-      marks_fit line.day.now line.k c.args.entry.step _ _ inv.3,
-      omega (arith, takes, takes_most (step_of line.day.now line.k c.loop-slots.at.step)),
-      omega (arith, room inv.1.swept on.0),
-    )
+    (marks_fit line.day.now line.k c.args.entry.step _ _ inv.3, omega (arith, room inv.1.swept on.0))
 
 pub next-at-requires : goal.next-at-requires
 next-at-requires c = (c.loop-slots.invariant.1.swept, (c.goes_on.ensures.on c.loop-slots-test.true).0)

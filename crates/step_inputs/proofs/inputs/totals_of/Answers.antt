@@ -21,7 +21,7 @@ narrow-requires c =
 
 pub greatest_break-requires : goal.greatest_break-requires
 greatest_break-requires c =
-    (search rules, accepted_bids _ _ c.requires)
+    (accepted_bids _ _ c.requires)
 
 pub returns : goal.returns
 returns c =
