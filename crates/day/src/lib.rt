@@ -14,7 +14,8 @@ use crate::equal_keys::check_keys;
 use crate::market::check_market;
 use crate::records::check_records;
 use day_header::check_header;
-use layout::header::{line_count, lines_at, record_count, records_at};
+use layout::header::{line_count, lines_at};
+use layout::records::Records;
 use line::check_lines;
 use refusals::Refusal;
 
@@ -26,9 +27,8 @@ pub fn check_day(day: &[u8]) -> Result<(), Refusal>
     check_header(day)?;
     check_market(day)?;
     let n = line_count(day);
-    let from = records_at(day);
-    let count = record_count(day) as usize;
-    check_records(day, from, n, count)?;
-    check_lines(day, lines_at(day), n, from, count)?;
+    let records = Records::of(day);
+    check_records(&records, n)?;
+    check_lines(day, lines_at(day), n, records.from, records.count)?;
     check_keys(day, n)
 }

@@ -5,24 +5,19 @@ use native.Mathlib.Numerals.{add-one}
 use native.Mathlib.Decide.{ℕ_discrete}
 use mathlib.Core.Path.{◌≡◌, refl, sym, ◌∙◌, ap, subst}
 use mathlib.Core.List.{List}
-use mathlib.Core.Bool.{Bool, true, false, cond, ◌&&◌}
-use lib.Dec.{eqb}
+use mathlib.Core.Bool.{Bool, true, false, cond}
 use lib.ListN.{length, get_or, set, length-set}
 use lib.Seq.{get_or-set_same, get_or-set_other}
 use Rattle.std.proofs.lemmas.Bool.Decides.{nat_tests}
 use Rattle.std.proofs.Common.{true≢false}
 use Rattle.rules.specs.Fold.{first}
-use Rattle.rules.specs.Layout.{line_at, participant, point, side}
+use Rattle.rules.specs.Layout.{line_at}
 use Rattle.rules.specs.Refusals.{same_key, pair_fault, key_fault}
 use Rattle.laws.specs.Folds.{first_none, first_more, first_stop}
 use Rattle.day_header.proofs.Header.{refuse_is}
 use Rattle.day.specs.Keys.{slot_of}
 
 -- refusal 14 of a pair, and of a line
-pub same_tests : (v w : List ℕ) → same_key v w ≡ (eqb (participant v) (participant w) && (eqb (point v) (point w) && eqb (side v) (side w)))
-unfolding same_key
-same_tests v w = grind (arith, nat_tests)
-
 pub pair_is : (d : List ℕ) (k i : ℕ) → pair_fault d k i ≡ cond (same_key (line_at d i) (line_at d k)) 14 0
 unfolding pair_fault
 pair_is d k i = refuse_is 14 _
@@ -31,12 +26,12 @@ pub key_is : (d : List ℕ) (k : ℕ) → key_fault d k ≡ first (pair_fault d 
 unfolding key_fault
 key_is d k = refl
 
-pub ruleset key_laws = (key_is, pair_is, same_tests, first_none, first_more, first_stop)
+pub ruleset key_laws = (key_is, pair_is, first_none, first_more, first_stop)
 
 -- lines with other slots have other keys
 other_key : (v w : List ℕ) → (slot_of v ≡ slot_of w → ⊥) → same_key v w ≡ false
-unfolding slot_of
-other_key v w h = grind (arith, nat_tests, same_tests)
+unfolding slot_of same_key
+other_key v w h = grind (arith, nat_tests)
 
 pub slot_few : (w : List ℕ) → slot_of w < 128
 unfolding slot_of

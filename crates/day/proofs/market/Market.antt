@@ -3,7 +3,7 @@ use Prim.Native.Nat.{ℕ}
 use mathlib.Core.Path.{◌≡◌, refl, ap}
 use mathlib.Core.List.{List}
 use mathlib.Core.Bool.{cond}
-use lib.Dec.{eqb, ltb}
+use lib.Dec.{ltb}
 use Rattle.rules.specs.Fold.{refuse, ◌or_else◌, first}
 use Rattle.rules.specs.Layout.{market_word, cap_mark, clawback}
 use Rattle.rules.specs.Refusals.{market_price_fault, mark_fault, market_fault}

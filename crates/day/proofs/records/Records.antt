@@ -2,12 +2,10 @@
 use Prim.Native.Nat.{ℕ}
 use mathlib.Core.Path.{◌≡◌, refl}
 use mathlib.Core.List.{List}
-use mathlib.Core.Bool.{Bool, true, false, cond, ◌&&◌}
+use mathlib.Core.Bool.{cond}
 use lib.Dec.{eqb, leb, ltb}
-use native.Mathlib.Omega.{arith}
-use Rattle.std.proofs.lemmas.Bool.Decides.{nat_tests}
 use Rattle.rules.specs.Fold.{refuse, first, ◌or_else◌}
-use Rattle.rules.specs.Layout.{record_line, record_schedule, record_order}
+use Rattle.rules.specs.Layout.{record_line, record_schedule}
 use Rattle.rules.specs.Refusals.{record_fault, same_record, twin_fault}
 use Rattle.laws.specs.Folds.{first_none, first_more, first_stop}
 use Rattle.day_header.proofs.Header.{refuse_or, refuse_is, or_else_is}
@@ -21,12 +19,6 @@ unfolding record_fault ◌or_else◌
 record_tests d r n i = simp refuse_or (simp refuse_is)
 
 -- refusal 21 of a pair, and of a record
-pub same_tests : (d : List ℕ) (r h i : ℕ) → same_record d r h i ≡
-    (eqb (record_line d r h) (record_line d r i)
-    && (eqb (record_schedule d r h) (record_schedule d r i) && eqb (record_order d r h) (record_order d r i)))
-unfolding same_record
-same_tests d r h i = grind (arith, nat_tests)
-
 unfoldable pub pair_fault : List ℕ → ℕ → ℕ → ℕ → ℕ
 pair_fault d r i h = refuse 21 (same_record d r h i)
 
@@ -38,7 +30,7 @@ pub twin_is : (d : List ℕ) (r i : ℕ) → twin_fault d r i ≡ first (pair_fa
 unfolding twin_fault pair_fault
 twin_is d r i = refl
 
-pub ruleset twin_laws = (twin_is, pair_is, same_tests, first_none, first_more, first_stop)
+pub ruleset twin_laws = (twin_is, pair_is, first_none, first_more, first_stop)
 
 -- both
 pub ruleset part_laws = (or_else_is, first_none, first_more, first_stop)
