@@ -1,5 +1,4 @@
 -- `cutter::cut` meets its contract.
-use Rattle.std.proofs.Common.{refl, sym, ◌∙◌}
 use Rattle.refusals.specs.Laws.{refused}
 use Rattle.cutter.proofs.Answers.{cut_short, cut_refused_lem, cut_line, cut_whole}
 use Rattle.cutter.proofs.cut.Goals as goal
