@@ -9,7 +9,6 @@ ghost use Rattle.cutter_text.specs.CutText.{accepted_text, cut_text, text_most, 
 
 use crate::rows::{put_count, put_row, put_steps};
 use cutter::cut;
-use numbers::widened;
 use rules::Cut;
 use std::io;
 use std::io::Write;
@@ -23,12 +22,10 @@ fn put_accepted(out: &mut [u8], r: Cut, count: usize) -> usize
     requires { (count ≡ r.count) × (count ≤ 56) × (text_most ≤ length out.old) }
     ensures { Written text_most out.old 0 (accepted_text r) result out.new }
 {
-    let flags = r.flags;
-    let missing = r.missing;
     let a = put_count(out, r.count);
     let b = put_steps(out, a, r, count);
-    let c = put_row(out, b, b"flags", flags);
-    put_row(out, c, b"missing", widened(missing))
+    let c = put_row(out, b, b"flags", r.flags);
+    put_row(out, c, b"missing", r.missing.map(u64::from))
 }
 
 // The text of an answer.
@@ -37,9 +34,10 @@ fn put_cut(out: &mut [u8], r: Cut) -> usize
     ensures { Written text_most out.old 0 (cut_text r) result out.new }
 {
     if r.number != 0 {
-        return put_refused(out, 0, r.number);
+        put_refused(out, 0, r.number)
+    } else {
+        put_accepted(out, r, r.count as usize)
     }
-    put_accepted(out, r, r.count as usize)
 }
 
 // The text of a line's cut, at the front of the lent bytes. Answers how many it takes, and 0 with nothing written where fewer than
@@ -48,9 +46,10 @@ pub fn put_line(out: &mut [u8], line: &[u8]) -> usize
     ensures { Written (length out.old) out.old 0 (lent_text (cut_answer line.now) (length out.old)) result out.new }
 {
     if out.len() < TEXT_MOST {
-        return 0;
+        0
+    } else {
+        put_cut(out, cut(line))
     }
-    put_cut(out, cut(line))
 }
 
 // Prints the text of a line's cut, made at the front of the lent bytes.

@@ -8,21 +8,19 @@ ghost use Rattle.text.specs.Put.{Written};
 ghost use Rattle.cutter_text.specs.CutRows.{row_text, cut_step_text, count_text};
 
 use cutter::read_step::price_row;
-use numbers::widened;
 use rules::Cut;
 use text::digits::{put_byte, put_bytes, put_decimal, put_spaced};
 
-// Five numbers, each after a space, and the line's end.
+// Five numbers, each after a space, and the line's end. The loop maintains that those before v[s] are put.
 fn put_five(out: &mut [u8], at: usize, v: [u64; 5]) -> usize
     requires { at + 106 ≤ length out.old }
     ensures { Written 106 out.old at (row_text (fold.at v)) result out.new }
 {
-    let a = put_spaced(out, at, v[0]);
-    let b = put_spaced(out, a, v[1]);
-    let c = put_spaced(out, b, v[2]);
-    let d = put_spaced(out, c, v[3]);
-    let e = put_spaced(out, d, v[4]);
-    put_byte(out, e, b'\n')
+    let mut p = at;
+    for s in 0..5 {
+        p = put_spaced(out, p, v[s]);
+    }
+    put_byte(out, p, b'\n')
 }
 
 // A line of a word and five numbers.
@@ -39,7 +37,7 @@ fn put_step(out: &mut [u8], at: usize, end: u32, price: [u64; 5]) -> usize
     requires { at + 126 ≤ length out.old }
     ensures { Written 126 out.old at (decimal end ++ row_text (fold.at price)) result out.new }
 {
-    let p = put_decimal(out, at, end as u64);
+    let p = put_decimal(out, at, u64::from(end));
     put_five(out, p, price)
 }
 
@@ -48,8 +46,7 @@ fn prices_of(r: Cut, k: usize) -> [u64; 5]
     requires { k < 56 }
     ensures { result ≡ five (price_in r.prices k) }
 {
-    let prices = r.prices;
-    widened(price_row(&prices, k))
+    price_row(&r.prices, k).map(u64::from)
 }
 
 // The lines of the first `count` steps. The loop maintains that those of the first k are put.
@@ -58,10 +55,8 @@ pub fn put_steps(out: &mut [u8], at: usize, r: Cut, count: usize) -> usize
     ensures { Written (126 * count) out.old at (joined count (cut_step_text r)) result out.new }
 {
     let mut p = at;
-    let mut k = 0;
-    while k < count {
+    for k in 0..count {
         p = put_step(out, p, r.ends[k], prices_of(r, k));
-        k += 1;
     }
     p
 }
@@ -72,6 +67,6 @@ pub fn put_count(out: &mut [u8], count: u32) -> usize
     ensures { Written 25 out.old 0 (count_text count) result out.new }
 {
     let a = put_bytes(out, 0, b"cut ");
-    let b = put_decimal(out, a, count as u64);
+    let b = put_decimal(out, a, u64::from(count));
     put_byte(out, b, b'\n')
 }

@@ -9,6 +9,6 @@ returns-then-r-ne0 c =
     written_wider 29 text_most (written_as (text_refused _ c.if-r-ne0.true) c.put_refused.ensures)
     (omega arith)
 
-pub returns : goal.returns
-returns c =
+pub returns-else-r-ne0 : goal.returns-else-r-ne0
+returns-else-r-ne0 c =
     written_as (text_steps _ c.if-r-ne0.false) c.put_accepted.ensures

@@ -11,8 +11,8 @@ returns-then-out-lt-TEXT_MOST c = written_nothing _ _ (lent_short _ _ c.if-out-l
 pub put_cut-requires : goal.put_cut-requires
 put_cut-requires c = (answer_count _ _ c.cut.ensures, search rules)
 
-pub returns : goal.returns
-returns c =
+pub returns-else-out-lt-TEXT_MOST : goal.returns-else-out-lt-TEXT_MOST
+returns-else-out-lt-TEXT_MOST c =
     written_wider text_most _
     (written_as (lent_whole _ c.cut.ensures c.if-out-lt-TEXT_MOST.false)
     c.put_cut.ensures) c.if-out-lt-TEXT_MOST.false

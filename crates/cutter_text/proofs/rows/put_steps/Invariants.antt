@@ -1,5 +1,5 @@
 -- `cutter_text::rows::put_steps` meets its contract: after k turns the first k steps are put.
-use Prim.Native.Nat.{◌*◌, ◌-◌, ◌≤◌}
+use Prim.Native.Nat.{◌*◌}
 use mathlib.Core.Path.{◌≡◌}
 use lib.ListN.{length}
 use Rattle.cutter_text.specs.CutRows.{cut_step_text}
@@ -8,7 +8,4 @@ use Rattle.text.specs.Put.{Written}
 use Rattle.cutter_text.proofs.rows.put_steps.Given as goal
 
 abbrev pub invariant-loop-k : goal.invariant-loop-k
-invariant-loop-k l = (l.k ≤ l.count) × (length l.out ≡ length l.initial.out) × (Written (126 * l.k) l.initial.out l.at (joined l.k (cut_step_text l.r)) l.p l.out)
-
-abbrev pub decreases-loop-k : goal.decreases-loop-k
-decreases-loop-k l = l.count - l.k
+invariant-loop-k l = (length l.out ≡ length l.initial.out) × (Written (126 * l.k) l.initial.out l.at (joined l.k (cut_step_text l.r)) l.p l.out)
