@@ -53,6 +53,7 @@ fn places_for(records: &Records, k: usize) -> [Option<usize>; 5]
     let mut places = [None; 5];
     for i in 0..records.count {
         if records.line(i) as usize == k {
+            // By way of `after`: the check does not cover a call whose array is put in `places` itself.
             let after = places_with(records, i, places);
             places = after;
         }
