@@ -22,14 +22,12 @@ use refusals::Refusal;
 pub fn check_head(line: &Line) -> Result<(), Refusal>
     ensures { fault_of result ≡ head_fault line.now }
 {
-    let accepted = match accreditation(line) {
-        0..=1 | 32..=63 => side(line) <= 1,
-        _ => false,
-    };
-    if accepted {
-        Ok(())
-    } else {
-        Err(Refusal::SideOrAccreditation)
+    if side(line) > 1 {
+        return Err(Refusal::SideOrAccreditation);
+    }
+    match accreditation(line) {
+        0..=1 | 32..=63 => Ok(()),
+        _ => Err(Refusal::SideOrAccreditation),
     }
 }
 
