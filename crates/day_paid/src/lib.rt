@@ -84,17 +84,16 @@ fn pools_with(p: Pools, side: u32, line: SidePool) -> Pools
     requires { PoolsAddable p side line }
     ensures { result ≡ pools_with p side line }
 {
-    let injection = p.injection;
-    let withdrawal = p.withdrawal;
     if side == 0 {
-        return Pools {
-            injection: pool_add(injection, line),
-            withdrawal,
-        };
-    }
-    Pools {
-        injection,
-        withdrawal: pool_add(withdrawal, line),
+        Pools {
+            injection: pool_add(p.injection, line),
+            withdrawal: p.withdrawal,
+        }
+    } else {
+        Pools {
+            injection: p.injection,
+            withdrawal: pool_add(p.withdrawal, line),
+        }
     }
 }
 
@@ -102,12 +101,11 @@ fn pools_with(p: Pools, side: u32, line: SidePool) -> Pools
 fn kept_of(x: LinePool) -> KeptLine
     ensures { result ≡ record { plus = x.pool.plus; from = x.from; taking = x.taking } }
 {
-    let pool = x.pool;
-    let plus = pool.plus;
-    let from = x.from;
+    // An array in a field is put into a literal by way of a variable: the borrow checker covers nothing else.
+    let plus = x.pool.plus;
     KeptLine {
         plus,
-        from,
+        from: x.from,
         taking: x.taking,
     }
 }
@@ -152,16 +150,14 @@ fn kept_money(day: &[u8], k: usize, m: Market, pools: Pools, kept: KeptLine) -> 
 {
     let plus = kept.plus;
     if kept.taking == 0 {
-        return Money {
+        Money {
             plus,
             minus: [0; 5],
-        };
+        }
+    } else {
+        let pool = pool_of(side(line_of(day, k)), pools.injection, pools.withdrawal);
+        line_taken(day, k, m, pool, plus, kept.from, kept.taking)
     }
-    let injection = pools.injection;
-    let withdrawal = pools.withdrawal;
-    let pool = pool_of(side(line_of(day, k)), injection, withdrawal);
-    let from = kept.from;
-    line_taken(day, k, m, pool, plus, from, kept.taking)
 }
 
 // The second pass: what each line is paid put from place 5 k on, and their money in all. The loop maintains that the first k are paid, and
@@ -171,14 +167,12 @@ fn pay_kept(day: &[u8], m: Market, x: KeptDay, paid: &mut [i64; 320]) -> Money
     ensures value { result ≡ money_to (line_count day.now) (line_money (settled_day day.now)) }
     ensures paid_after { paid.new ≡ sets paid.old 0 (payments_to (settled_day day.now) (line_count day.now)) }
 {
-    let pools = x.pools;
-    let lines = x.lines;
     let mut total = Money {
         plus: [0; 5],
         minus: [0; 5],
     };
     for k in 0..line_count(day) {
-        let money = kept_money(day, k, m, pools, lines[k]);
+        let money = kept_money(day, k, m, x.pools, x.lines[k]);
         put_payments(paid, 5 * k, signed_money(money));
         total = money_add(total, money);
     }
@@ -235,9 +229,10 @@ fn pay_lines(day: &[u8], m: Market, paid: &mut [i64; 320], counts: &mut [u32; 64
     ensures counts_after { counts.new ≡ sets counts.old 0 (list_to (line_count day.now) (settled_day day.now).count) }
 {
     if m.clawback == 0 {
-        return pay_initial(day, m, paid, counts);
+        pay_initial(day, m, paid, counts)
+    } else {
+        pay_final(day, m, paid, counts)
     }
-    pay_final(day, m, paid, counts)
 }
 
 // What an accepted day pays: its totals answered, line k's payment in schedule s (0 to 4) at place 5 k + s, its step count at place k.

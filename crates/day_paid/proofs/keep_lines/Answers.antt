@@ -7,7 +7,7 @@ use native.Mathlib.Omega.{arith}
 use borrow.Author.Rules.{rules}
 use Rattle.rules.specs.Fold.{list_to}
 use Rattle.rules.specs.Days.{settled_day}
-use Rattle.step_inputs.proofs.Lines.{line_lies, lent_length}
+use Rattle.step_inputs.proofs.Lines.{line_lies}
 use Rattle.day_paid.specs.Paid.{counts_none, counts_next}
 use Rattle.day_paid.specs.Lines.{pools_to, KeptTo}
 use Rattle.day_paid.proofs.Kept.{pools_none, pools_addable, pools_next, kept_next, all_kept}
@@ -33,12 +33,6 @@ pub line_of-requires : goal.line_of-requires
 line_of-requires c =
     line_lies c.args.day.now c.requires.0 c.loop-k.k
     (omega (arith, c.line_count-k-end.ensures))
-
-pub side-requires : goal.side-requires
-side-requires c =
-    let lent-length' = lent_length c.args.day.now c.requires.0 c.loop-k.k
-    (omega (arith, c.line_count-k-end.ensures)) _ c.line_of.ensures in
-    omega (arith, lent-length')
 
 pub pools_with-pools-requires : goal.pools_with-pools-requires
 pools_with-pools-requires c =

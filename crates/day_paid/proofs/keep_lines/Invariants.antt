@@ -7,7 +7,7 @@ use native.Mathlib.Omega.{arith}
 use borrow.Author.Rules.{rules}
 use Rattle.rules.specs.Fold.{list_to}
 use Rattle.rules.specs.Days.{settled_day}
-use Rattle.step_inputs.proofs.Lines.{line_lies, lent_length}
+use Rattle.step_inputs.proofs.Lines.{line_lies}
 use Rattle.day_paid.specs.Paid.{counts_none, counts_next}
 use Rattle.day_paid.specs.Lines.{pools_to, KeptTo}
 use Rattle.day_paid.proofs.Kept.{pools_none, pools_addable, pools_next, kept_next, all_kept}

@@ -1,7 +1,7 @@
 -- `day_paid::kept_money` meets its contract: by whether a step of the line takes something back.
 use native.Mathlib.Omega.{arith}
 use borrow.Author.Rules.{rules}
-use Rattle.step_inputs.proofs.Lines.{line_lies, lent_length}
+use Rattle.step_inputs.proofs.Lines.{line_lies}
 use Rattle.day_paid.specs.Lines.{line_pool_lem}
 use Rattle.day_paid.proofs.Laws.{line_money_lem}
 use Rattle.day_paid.proofs.Kept.{untaken_money}
@@ -16,10 +16,6 @@ pub line_of-requires : goal.line_of-requires
 line_of-requires c =
     line_lies c.args.day.now c.requires.0 c.args.k c.requires.1
 
-pub side-requires : goal.side-requires
-side-requires c =
-    omega (arith, lent_length c.args.day.now c.requires.0 c.args.k c.requires.1 _ c.line_of.ensures)
-
 pub line_taken-requires : goal.line_taken-requires
 line_taken-requires c = (
   c.requires.0,
@@ -32,6 +28,6 @@ line_taken-requires c = (
   c.requires.5.kept,
 )
 
-pub returns : goal.returns
-returns c =
+pub returns-else-kept-eq0 : goal.returns-else-kept-eq0
+returns-else-kept-eq0 c =
     line_money_lem (settled_day c.args.day.now) c.args.k _ c.line_taken.ensures

@@ -21,14 +21,6 @@ loop-k-init c =
     let y = settled_day c.args.day.now in
     (no_money_lem (line_money y), payments_none y _)
 
-pub offset_bounds-lines-k : goal.offset_bounds-lines-k
-offset_bounds-lines-k c =
-    record { fits = omega (arith, c.line_count-k-end.ensures, c.requires.0.header.count_most) }
-
-pub bounds-lines-k : goal.bounds-lines-k
-bounds-lines-k c =
-    omega (arith, c.line_count-k-end.ensures, c.requires.0.header.count_most)
-
 pub kept_money-money-requires : goal.kept_money-money-requires
 kept_money-money-requires c = (
   c.requires.0,

@@ -11,10 +11,7 @@ unfolding pools_with
 returns-then-side-eq0 c =
     rw (eq-eqb c.args.side 0 c.if-side-eq0.true, c.pool_add.ensures)
 
-pub pool_add-requires-2 : goal.pool_add-requires-2
-pool_add-requires-2 c = c.requires.withdrawal c.if-side-eq0.false
-
-pub returns : goal.returns
+pub returns-else-side-eq0 : goal.returns-else-side-eq0
 unfolding pools_with
-returns c =
-    rw (ne_eqb c.args.side 0 c.if-side-eq0.false, c.pool_add-2.ensures)
+returns-else-side-eq0 c =
+    rw (ne_eqb c.args.side 0 c.if-side-eq0.false, c.pool_add-else-side-eq0.ensures)
