@@ -3,7 +3,6 @@ ghost use Rattle.std.specs.Prelude.{◌≡◌};
 ghost use Rattle.day_pools.specs.Window.{window_of, Going, is_covered};
 
 use cutter::positions::FAR;
-use numbers::greater;
 use step_inputs::inputs::LineTotals;
 use step_pool::skipped_steps::{least, most};
 
@@ -22,7 +21,7 @@ pub fn window_of(t: LineTotals) -> Window
     let accredited = t.accredited;
     let pricing = t.pricing;
     let operating = t.operating;
-    let from = greater(t.hedge, least(pricing));
+    let from = t.hedge.max(least(pricing));
     if most(accredited) == 0 {
         return Window { from, to: 0 };
     }
