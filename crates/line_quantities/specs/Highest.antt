@@ -1,8 +1,8 @@
 -- The records in force, record by record.
-use Rattle.std.specs.Prelude.{ℕ, zero, suc, ◌+◌, ◌≤◌, ◌<◌, ◌≡◌, refl, List, Bool, true, false, cond, ◌&&◌, eqb, get_or, Option, None, Some, replicate}
+use Rattle.std.specs.Prelude.{ℕ, zero, suc, ◌+◌, ◌*◌, ◌-◌, ◌≤◌, ◌<◌, ◌≡◌, refl, ltb, List, Bool, true, false, cond, ◌&&◌, eqb, get_or, Option, None, Some, replicate}
 use Rattle.std.proofs.Common.{arith, add-one, ◌∙◌, sym, ap, eq-eqb, ne_eqb, true≢false}
 use Rattle.rules.specs.Fold.{five}
-use Rattle.rules.specs.Layout.{line_at, records_at, record_count, operating_table, record_line, record_schedule}
+use Rattle.rules.specs.Layout.{line_at, records_at, record_count, operating_entry, operating_table, record_line, record_schedule, record_order, record_entry}
 use Rattle.rules.specs.InForce.{is_for, is_above, highest, row_at, table_with, table_in_force}
 use Rattle.laws.specs.Folds.{at_five}
 use Rattle.laws.specs.InForce.{own_rows}
@@ -75,6 +75,9 @@ module _ (b : List ℕ) (r k : ℕ) where
       unfolding highest_places
       held s l = ap (λ (p : List (Option ℕ)). get_or p s None) e ∙ at_five (λ t. place_of (highest b r k t i)) None s l
 
+      pub place_is : (s : ℕ) → s < 5 → number (get_or places s None) ≡ highest b r k s i
+      place_is s l = ap number (held s l) ∙ number_is (highest b r k s i)
+
       pub held_most : (s : ℕ) → s < 5 → number (get_or places s None) ≤ i
       held_most s l = rw (held s l) (place_most b r k s i)
 
@@ -84,11 +87,64 @@ module _ (b : List ℕ) (r k : ℕ) where
           five_same (λ s. place_with b r i (s + 1) (get_or places s None)) (λ s. place_of (highest b r k s (i + 1)))
           (λ s l. rw (add-one, held s l) (sym (own b r k s i h)))
 
-      pub rows_are : (w : List ℕ) → five (λ s. row_at b r w s (number (get_or places s None))) ≡ table_with b r i k w
+      -- each lies within the records
+      pub lies : (n : ℕ) → r + 32 * i ≤ n → (s : ℕ) → s < 5 → r + 32 * number (get_or places s None) ≤ n
+      lies n h s l = omega (arith, held_most s l)
+
+      pub table_is : (w : List ℕ) → five (λ s. row_at b r w s (number (get_or places s None))) ≡ table_with b r i k w
       unfolding table_with
-      rows_are w =
+      table_is w =
           five_same (λ s. row_at b r w s (number (get_or places s None))) (λ s. row_at b r w s (highest b r k s i))
           (λ s l. ap (row_at b r w s) (ap number (held s l) ∙ number_is (highest b r k s i)))
+
+-- at the records' end
+pub places_all : (b : List ℕ) (r k c i : ℕ) (p : List (Option ℕ)) → p ≡ highest_places b r k i → i ≤ c → c ≤ i → p ≡ highest_places b r k c
+places_all b r k c i p e h l = e ∙ ap (highest_places b r k) (omega arith)
+
+-- a place by its tests
+module _ (b : List ℕ) (r i schedule x : ℕ) (p : Option ℕ) (e : x ≡ record_schedule b r i) where
+  pub place_other : (x ≡ schedule → ⊥) → p ≡ place_with b r i schedule p
+  unfolding place_with
+  place_other h = rw (ne_eqb (record_schedule b r i) schedule (λ z. h (e ∙ z)))
+
+  module _ (same : x ≡ schedule) (t : Bool) (te : t ≡ is_above b r i (number p)) where
+    is_for_lem : eqb (record_schedule b r i) schedule ≡ true
+    is_for_lem = eq-eqb (record_schedule b r i) schedule (sym e ∙ same)
+
+    pub place_above : t ≡ true → Some i ≡ place_with b r i schedule p
+    unfolding place_with
+    place_above h = rw (is_for_lem, sym te ∙ h)
+
+    pub place_stays : t ≡ false → p ≡ place_with b r i schedule p
+    unfolding place_with
+    place_stays h = rw (is_for_lem, sym te ∙ h)
+
+-- an order number above that of the record at place p, and the row of that place
+module _ (b : List ℕ) (r i p : ℕ) where
+  pub above_none : p ≡ 0 → true ≡ is_above b r i p
+  unfolding is_above
+  above_none h = ap (is_above b r i) (sym h)
+
+  above_by : (q : ℕ) → q ≡ p → (p ≡ 0 → ⊥) → ltb (record_order b r (q - 1)) (record_order b r i) ≡ is_above b r i q
+  unfolding is_above
+  above_by zero e h = absurd (h (sym e))
+  above_by (suc q) e h = ap (λ (n : ℕ). ltb (record_order b r n) (record_order b r i)) (omega arith)
+
+  pub above_some : (p ≡ 0 → ⊥) → (x y : ℕ) → x ≡ record_order b r (p - 1) → y ≡ record_order b r i → ltb x y ≡ is_above b r i p
+  above_some h x y xe ye = rw (xe, ye) (above_by p refl h)
+
+module _ (b : List ℕ) (r : ℕ) (w : List ℕ) (s p : ℕ) (t : List ℕ) where
+  pub own_row : p ≡ 0 → t ≡ five (operating_entry w s) → t ≡ row_at b r w s p
+  unfolding row_at
+  own_row h e = e ∙ ap (row_at b r w s) (sym h)
+
+  row_by : (q : ℕ) → q ≡ p → (p ≡ 0 → ⊥) → five (record_entry b r (q - 1)) ≡ row_at b r w s q
+  unfolding row_at
+  row_by zero e h = absurd (h (sym e))
+  row_by (suc q) e h = ap (λ (n : ℕ). five (record_entry b r n)) (omega arith)
+
+  pub row_of : (p ≡ 0 → ⊥) → t ≡ five (record_entry b r (p - 1)) → t ≡ row_at b r w s p
+  row_of h e = e ∙ row_by p refl h
 
 -- the table by the five places
 pub table_none : (b : List ℕ) (r c k : ℕ) (w : List ℕ) → c ≡ 0 → operating_table w ≡ table_with b r c k w

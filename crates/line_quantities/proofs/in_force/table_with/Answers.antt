@@ -1,6 +1,6 @@
 -- `line_quantities::in_force::table_with` meets its contract.
 use Rattle.std.proofs.Common.{◌∙◌, arith}
-use Rattle.line_quantities.specs.Highest.{table_none, held_most, rows_are}
+use Rattle.line_quantities.specs.Highest.{table_none, held_most, table_is}
 use Rattle.line_quantities.proofs.in_force.table_with.Goals as goal
 
 pub returns-then-records-eq0 : goal.returns-then-records-eq0
@@ -29,4 +29,4 @@ returns c =
       c.row_at-3.ensures,
       c.row_at-4.ensures,
       c.row_at-5.ensures,
-    ) (rows_are _ _ _ _ _ c.places_for-places.ensures _)
+    ) (table_is _ _ _ _ _ c.places_for-places.ensures _)
