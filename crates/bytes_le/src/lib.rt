@@ -5,7 +5,7 @@
 ghost use Rattle.std.specs.Prelude.{◌≡◌, ◌+◌, ◌≤◌, length};
 ghost use Rattle.std.proofs.lemmas.List.Edits.{sets};
 ghost use Rattle.rules.specs.Layout.{word};
-ghost use Rattle.rules.specs.Book.{le, bits64, signed_bytes};
+ghost use Rattle.rules.specs.Book.{le, signed_bytes};
 ghost use Rattle.bytes_le.specs.Wide.{long_word, signed_of};
 
 // The word whose first byte is byte `at`.
@@ -30,13 +30,6 @@ pub fn signed_at(b: &[u8], at: usize) -> i64
     ensures { result ≡ signed_of (long_word b.now at) }
 {
     long_at(b, at).cast_signed()
-}
-
-// The 64 bits of a signed number.
-pub fn bits(v: i64) -> u64
-    ensures { result ≡ bits64 v }
-{
-    v.cast_unsigned()
 }
 
 // A word put from byte `at` on.
