@@ -16,10 +16,9 @@ use units::{Kind, Quantity};
 pub fn check_count(s: usize, count: usize) -> Result<(), Refusal>
     ensures { fault_of result ≡ count_fault s count }
 {
-    if 11 < count || count == 0 && s == 0 {
-        Err(Refusal::BidCount)
-    } else {
-        Ok(())
+    match (s, count) {
+        (0, 0) | (_, 12..) => Err(Refusal::BidCount),
+        _ => Ok(()),
     }
 }
 

@@ -15,7 +15,6 @@ use refusals::Refusal;
 use units::{Kind, Price};
 
 // Whether price q after price p is out of order on a side.
-#[tactic(auto, using(numbers::specs::Turned::turned_order))]
 pub fn out_of_order(sd: u32, p: u32, q: u32) -> bool
     ensures { result ≡ out_of_order sd p q }
 {

@@ -28,11 +28,13 @@ pub fn check_hedge(line: &Line, most: u32) -> Result<(), Refusal>
     ensures { fault_of result ≡ hedge_fault line.now most }
 {
     let hedged = hedge(line);
-    if most < hedged || side(line) == 1 && hedged != 0 {
-        Err(Refusal::Hedge)
-    } else {
-        Ok(())
+    if most < hedged {
+        return Err(Refusal::Hedge);
     }
+    if side(line) == 1 && hedged != 0 {
+        return Err(Refusal::Hedge);
+    }
+    Ok(())
 }
 
 // The most that a total may be, with M.
@@ -49,7 +51,10 @@ pub fn check_totals(limit: u64, pricing: [u64; 5], operating: [u64; 5]) -> Resul
     ensures { fault_of result ≡ first (totals_fault limit pricing operating) 5 }
 {
     for s in 0..5 {
-        if limit < pricing[s] || limit < operating[s] {
+        if limit < pricing[s] {
+            return Err(Refusal::Totals);
+        }
+        if limit < operating[s] {
             return Err(Refusal::Totals);
         }
     }
