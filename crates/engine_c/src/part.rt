@@ -3,11 +3,12 @@ ghost use Rattle.std.specs.Prelude.{◌≡◌, take, drop};
 ghost use Rattle.rules.specs.Refusals.{line_part_fault, line_part};
 ghost use Rattle.engine_c.specs.Parts.{part_at, part_length};
 
-use day_header::line_part_number;
+use day_header::check_line_part;
 use layout::header::{LINE_BYTES, line_place};
 
 // The bytes of line k (document 01, "Steps and prices"), lent by place: they are the `length` bytes of the day from byte `at` on.
 // Answers the number; refused, both places are 0 and the part is empty.
+#[tactic(auto, using(day_header::proofs::Header::part_within), unfolding(crate::specs::Parts::part_at, crate::specs::Parts::part_length, rules::specs::Refusals::line_part))]
 #[unsafe(no_mangle)]
 pub extern "C" fn mewikofu_line_part(
     day: &[u8],
@@ -20,13 +21,16 @@ pub extern "C" fn mewikofu_line_part(
     ensures length_after { length.new ≡ part_length day.now k }
     ensures day_after { take length.new (drop at.new day.now) ≡ line_part day.now k }
 {
-    let number = line_part_number(day, k);
-    if number != 0 {
-        *at = 0;
-        *length = 0;
-        return number;
+    match check_line_part(day, k) {
+        Ok(()) => {
+            *at = line_place(day, k);
+            *length = LINE_BYTES;
+            0
+        }
+        Err(refusal) => {
+            *at = 0;
+            *length = 0;
+            u32::from(refusal)
+        }
     }
-    *at = line_place(day, k);
-    *length = LINE_BYTES;
-    0
 }

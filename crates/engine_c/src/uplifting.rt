@@ -10,8 +10,14 @@ pub extern "C" fn mewikofu_uplift(day: &[u8], shares: &mut [i64; 5]) -> u32
     ensures value { result ≡ (uplift_answer day.now).number }
     ensures shares_after { shares.new ≡ (uplift_answer day.now).shares }
 {
-    let answer = uplift(day);
-    let row = answer.shares;
-    *shares = row;
-    answer.number
+    match uplift(day) {
+        Ok(row) => {
+            *shares = row;
+            0
+        }
+        Err(refusal) => {
+            *shares = [0; 5];
+            u32::from(refusal)
+        }
+    }
 }
