@@ -7,10 +7,12 @@ ghost use Rattle.certificate_calls.specs.Lines.{sums_of, sums_refused, line_sums
 
 use cutter::steps::steps;
 use day_header::line_part;
-use rules::View;
+use rules::{Excess, View};
+use std::array::from_fn;
 use view::view;
 
-// What the steps of one line add up to, quantities with their excess. Arrays are by schedule.
+// What the steps of one line add up to, quantities with their excess. Arrays are by schedule. The number stays in the struct, since the
+// definitions sums_of, sums_refused and line_sums answer it there, as the view does.
 #[derive(Clone, Copy)]
 pub struct LineSums {
     // 0, or the refusal
@@ -26,16 +28,11 @@ fn added(a: [u32; 5], b: [u32; 5]) -> [u32; 5]
     requires { (s : ℕ) → s < 5 → at a s + at b s < 2 ^ 32 }
     ensures { result ≡ five (added_in a b) }
 {
-    [
-        a[0] + b[0],
-        a[1] + b[1],
-        a[2] + b[2],
-        a[3] + b[3],
-        a[4] + b[4],
-    ]
+    from_fn(|s| a[s] + b[s])
 }
 
 // A refused day or line: the number and zeros.
+#[tactic(auto, unfolding(crate::specs::Lines::sums_refused))]
 fn refused(number: u32) -> LineSums
     ensures { result ≡ sums_refused number }
 {
@@ -43,67 +40,68 @@ fn refused(number: u32) -> LineSums
         number,
         width: 0,
         actual: 0,
-        pricing: [0u32; 5],
-        operating: [0u32; 5],
+        pricing: [0; 5],
+        operating: [0; 5],
     }
 }
 
 // The sums before any step: the excess.
+#[tactic(auto, unfolding(crate::specs::Lines::sums_excess))]
 fn with_excess(v: View) -> LineSums
     ensures { result ≡ sums_excess v }
 {
-    let excess = v.excess;
-    let pricing = excess.pricing;
-    let operating = excess.operating;
+    let Excess {
+        operating,
+        pricing,
+        actual,
+    } = v.excess;
     LineSums {
         number: 0,
         width: 0,
-        actual: excess.actual,
+        actual,
         pricing,
         operating,
     }
 }
 
 // The sums with one more step.
+#[tactic(auto, unfolding(crate::specs::Lines::sums_with))]
 fn with_step(a: LineSums, v: View) -> LineSums
     requires { Addable a v }
     ensures { result ≡ sums_with a v }
 {
-    let pricing = a.pricing;
-    let operating = a.operating;
-    let priced = v.pricing;
-    let operated = v.operating;
     LineSums {
         number: a.number,
         width: a.width + v.width,
         actual: a.actual + v.actual,
-        pricing: added(pricing, priced),
-        operating: added(operating, operated),
+        pricing: added(a.pricing, v.pricing),
+        operating: added(a.operating, v.operating),
     }
 }
 
 // The sums over all steps of a line, from the view of its first. The loop maintains that those below step j are added up.
+#[tactic(auto, using(crate::specs::Lines::sums_none, crate::specs::Lines::sums_more, crate::specs::Lines::sums_all))]
 fn all_steps(day: &[u8], line: usize, count: usize, first: View) -> LineSums
     requires { (LineCounted day.now line count) × (first ≡ view_answer day.now line 0) }
     ensures { result ≡ sums_of day.now line }
 {
     let mut sums = with_excess(first);
-    let mut j = 0;
-    while j < count {
+    for j in 0..count {
         sums = with_step(sums, view(day, line, j));
-        j += 1;
     }
     sums
 }
 
 // The sums of a line, for any bytes and any number: the steps are those that settling cuts, the figures those of the view.
+#[tactic(auto, using(crate::specs::Lines::first_number, crate::specs::Lines::sums_refused_lem, crate::specs::Lines::sums_taken))]
 pub fn line_sums(day: &[u8], line: usize) -> LineSums
     ensures { result ≡ line_sums day.now line }
 {
     let first = view(day, line, 0);
     if first.number != 0 {
-        return refused(first.number);
+        refused(first.number)
+    } else {
+        let c = steps(line_part(day, line).as_array().unwrap());
+        all_steps(day, line, c.count as usize, first)
     }
-    let c = steps(line_part(day, line));
-    all_steps(day, line, c.count as usize, first)
 }

@@ -6,19 +6,16 @@ use step_balance::{balance_agrees, falls_agree, rises_agree};
 use view::view;
 
 // Asks the view for one step and holds its matches against its C: by the certificate they agree.
+#[tactic(auto, using(crate::specs::Matches::balanced))]
 pub fn matches_agree(day: &[u8], line: usize, step: usize) -> bool
     ensures { result ≡ true }
 {
     let v = view(day, line, step);
     if v.number != 0 {
-        return true;
+        true
+    } else {
+        falls_agree(v.constrained, v.matches)
+            && rises_agree(v.constrained, v.matches)
+            && balance_agrees(v.constrained, v.matches)
     }
-    let c = v.constrained;
-    let m = v.matches;
-    if falls_agree(c, m) {
-        if rises_agree(c, m) {
-            return balance_agrees(c, m);
-        }
-    }
-    false
 }
