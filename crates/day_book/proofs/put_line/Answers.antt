@@ -7,24 +7,12 @@ use Rattle.rules.specs.Layout.{participant, point, side}
 use Rattle.rules.specs.Days.{settled_day}
 use Rattle.step_inputs.specs.Paid.{settled_sized}
 use Rattle.day_book.proofs.Laws.{payments_read, line_put}
-use Rattle.day_pools.proofs.Laws.{line_lies, lent_length}
+use Rattle.step_inputs.proofs.Lines.{line_lies}
 use Rattle.day_book.proofs.put_line.Goals as goal
 
 pub line_of-line-requires : goal.line_of-line-requires
 line_of-line-requires c =
     line_lies c.args.day.now c.requires.0 c.args.k c.requires.2
-
-pub participant-requires : goal.participant-requires
-participant-requires c =
-    omega (arith, (lent_length c.args.day.now c.requires.0 c.args.k c.requires.2 _ c.line_of-line.ensures))
-
-pub point-requires : goal.point-requires
-point-requires c =
-    omega (arith, (lent_length c.args.day.now c.requires.0 c.args.k c.requires.2 _ c.line_of-line.ensures))
-
-pub side-requires : goal.side-requires
-side-requires c =
-    omega (arith, (lent_length c.args.day.now c.requires.0 c.args.k c.requires.2 _ c.line_of-line.ensures))
 
 pub returns : goal.returns
 returns c =
