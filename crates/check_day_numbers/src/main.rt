@@ -3,7 +3,8 @@
 
 #![tactic(auto)]
 
-use day::day_number;
+use day::check_day;
+use refusals::number_of;
 use std::io;
 use std::io::Write;
 
@@ -13,6 +14,6 @@ fn main(rt: HostRuntime) -> io::Result<()> {
     pack::for_each(
         &mut rt.stdin(),
         &mut space,
-        |day| writeln!(output, "{}", day_number(day)),
+        |day| writeln!(output, "{}", number_of(check_day(day))),
     )
 }

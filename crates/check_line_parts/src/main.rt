@@ -3,14 +3,16 @@
 
 #![tactic(auto)]
 
-use day_header::{line_part, line_part_number};
+use day_header::{check_line_part, line_part};
+use refusals::number_of;
 use std::io;
 use std::io::Write;
 use streams::read_full;
 
 fn show<W: Write>(output: &mut W, day: &[u8], k: usize) -> io::Result<()> {
     let part = line_part(day, k);
-    write!(output, "{k} {} {}", line_part_number(day, k), part.len())?;
+    let number = number_of(check_line_part(day, k));
+    write!(output, "{k} {number} {}", part.len())?;
     for byte in part.iter().take(4) {
         write!(output, " {byte}")?;
     }

@@ -7,6 +7,7 @@ ghost use Rattle.rules.specs.Report.{report_text};
 ghost use Rattle.text.specs.Put.{Written};
 ghost use Rattle.text_report.specs.BookText.{report_most};
 
+use refusals::number_of;
 use settling::settle;
 use text_report::report;
 
@@ -16,6 +17,6 @@ pub fn day_report(day: &[u8], out: &mut [u8]) -> usize
     ensures { Written (length out.old) out.old 0 (cond (ltb (length out.old) report_most) [] (report_text day.now)) result out.new }
 {
     let mut book = [0u8; 3680];
-    let number = settle(day, &mut book);
-    report(number, &book, out)
+    let settled = settle(day, &mut book);
+    report(number_of(settled), &book, out)
 }

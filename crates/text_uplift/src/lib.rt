@@ -32,9 +32,8 @@ pub fn day_line(day: &[u8], out: &mut [u8]) -> usize
     if out.len() < LINE_MOST {
         return 0;
     }
-    let answer = uplift(day);
-    if answer.number != 0 {
-        return put_refused(out, 0, answer.number);
+    match uplift(day) {
+        Ok(shares) => put_shares(out, shares),
+        Err(refusal) => put_refused(out, 0, u32::from(refusal)),
     }
-    put_shares(out, answer.shares)
 }

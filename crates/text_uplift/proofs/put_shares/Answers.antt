@@ -1,5 +1,4 @@
 -- `text_uplift::put_shares` meets its contract: the texts that its calls put, one after another.
-use borrow.Author.Rules.{rules}
 use Rattle.text.specs.Put.{then}
 use Rattle.text_uplift.specs.Lines.{shares_line}
 use Rattle.text_uplift.proofs.put_shares.Goals as goal
