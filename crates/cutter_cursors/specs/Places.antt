@@ -66,8 +66,8 @@ module _ {w : List ℕ} {s at u : ℕ} (h : Standing w s at u) where
   place_most = let p = h.place in let c = of_bid.count_most in omega arith
 
   -- whose words can be read
-  pub place_read : (s < 5) × (at - 1 < 11)
-  place_read = let a = place_least in let b = place_most in (h.schedule, omega arith)
+  pub place_read : (length w ≡ 660) × (s < 5) × (at - 1 < 11)
+  place_read = let a = place_least in let b = place_most in (h.line.long, h.schedule, omega arith)
 
 -- of five cursors each
 pub standing : {w : List ℕ} {places : Sweep} {u : ℕ} → SweepAt w places u → {s : ℕ} → s < 5 → Standing w s (at places.at s) u
