@@ -8,7 +8,7 @@ pub overflow_sub-at : goal.overflow_sub-at
 overflow_sub-at c = omega (arith, place_least c.requires.0)
 
 pub bid_break-requires : goal.bid_break-requires
-bid_break-requires c = (place_read c.requires.0).1
+bid_break-requires c = let p = place_read c.requires.0 in (p.1, p.2)
 
 pub gap-requires : goal.gap-requires
 gap-requires c = (break_most c.requires.0 c.bid_break.ensures, c.requires.1)
