@@ -29,7 +29,7 @@ pub fn settle_certified(day: &[u8], book: &mut [u8]) -> Result<(), Refusal>
 
 // Asks the view and the cutter for the end of one step and compares them: by the certificate they never differ. The cutter may refuse the
 // line, where a record replaces one of its own rows: with 12 alone.
-#[tactic(auto, using(crate::specs::Calls::step_few, crate::specs::Calls::refused_twelve, crate::specs::Calls::same_end))]
+#[tactic(auto, using(crate::specs::Calls::step_few))]
 pub fn ends_agree(day: &[u8], line: usize, step: usize) -> bool
     ensures { result ≡ true }
 {
