@@ -1,0 +1,2 @@
+-- The entries of a pack (Entry).
+pub mod Entry
