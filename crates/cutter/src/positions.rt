@@ -23,6 +23,7 @@ pub struct Position {
 
 impl Position {
     // The upper end of the next step; none after the last.
+    #[inline(always)]
     pub fn next_end(self) -> Option<u32>
         requires { self.lower ≤ quantity_most }
         ensures { MatchOption result (far ≤ self.gap) (λ end. (self.gap < far) × (end ≡ self.lower + 1 + self.gap)) }
@@ -35,6 +36,7 @@ impl Position {
     }
 
     // The same where it is at or below u.
+    #[inline(always)]
     pub fn end_by(self, u: u32) -> Option<u32>
         requires { self.lower ≤ quantity_most }
         ensures { MatchOption result (self.gap < far → u < self.lower + 1 + self.gap)
@@ -44,6 +46,7 @@ impl Position {
     }
 
     // After the next step, which ends at `end`.
+    #[inline(always)]
     pub fn passed(self, line: &Line, end: u32) -> Position
         requires { SweptAt line.now self × (self.gap < far) × (end ≡ self.lower + 1 + self.gap) }
         ensures { SweptAt line.now result × (result.step ≡ self.step + 1) × (result.lower ≡ end) }

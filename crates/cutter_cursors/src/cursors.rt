@@ -22,6 +22,7 @@ pub struct Sweep {
 }
 
 // The break at which the cursor moves on; PAST at the bid's last step, and in a pulled bid.
+#[inline(always)]
 fn stop_of(line: &Line, s: usize, at: usize) -> u32
     requires { (s < 5) × (0 < at) × (at ≤ 11) }
     ensures { result ≡ stop_of line.now s at }
@@ -34,6 +35,7 @@ fn stop_of(line: &Line, s: usize, at: usize) -> u32
 }
 
 // Where the cursor of schedule s stands after the end u: at the next step if its break was u, but at no step past the last.
+#[inline(always)]
 fn moved(line: &Line, s: usize, at: usize, u: u32) -> usize
     requires { Standing line.now s at u × (u < past) }
     ensures { result ≡ place_of line.now s (suc u) }
@@ -50,6 +52,7 @@ pub fn start() -> Sweep
 }
 
 // After the end u.
+#[inline(always)]
 pub fn passed(line: &Line, places: Sweep, u: u32) -> Sweep
     requires { SweepAt line.now places u × (u < past) }
     ensures { result ≡ sweep_of line.now (suc u) }
@@ -60,6 +63,7 @@ pub fn passed(line: &Line, places: Sweep, u: u32) -> Sweep
 }
 
 // How far x is above e, counted from 0; 2 ^ 31 or more where it is not above.
+#[inline(always)]
 fn gap(x: u32, e: u32) -> u32
     requires { (x ≤ quantity_most) × (e ≤ quantity_most) }
     ensures { result ≡ gap_of x e }
@@ -68,6 +72,7 @@ fn gap(x: u32, e: u32) -> u32
 }
 
 // The gap from e to the break at which the cursor of schedule s stands.
+#[inline(always)]
 fn break_gap(line: &Line, s: usize, at: usize, e: u32) -> u32
     requires { Standing line.now s at (suc e) × (e ≤ quantity_most) }
     ensures { result ≡ break_gap line.now e s }
@@ -76,6 +81,7 @@ fn break_gap(line: &Line, s: usize, at: usize, e: u32) -> u32
 }
 
 // The least gap from e, over the five cursors and the hedge: to the next end. At that end too the cursors stand where they are.
+#[inline(always)]
 pub fn next_gap(line: &Line, places: Sweep, e: u32) -> u32
     requires { SweepAt line.now places (suc e) × (e ≤ quantity_most) }
     ensures value { result ≡ next_gap line.now e }

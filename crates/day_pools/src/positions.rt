@@ -7,6 +7,7 @@ use cutter::positions::Position;
 use layout::header::Line;
 
 // After the step before which the sweep stands.
+#[inline(always)]
 pub fn next(line: &Line, at: Position) -> Position
     requires { SweptAt line.now at × (at.gap < far) }
     ensures { SweptAt line.now result × (result.lower ≡ at.lower + 1 + at.gap) × (result.step ≡ at.step + 1) }

@@ -44,14 +44,10 @@ pub fn revised_rows(
     ensures { result ≡ five (revised_in side price market t initial) }
 {
     from_fn(|s| {
-        if s == 0 {
+        if s == 0 || initial[s] == 0 {
             0
         } else {
-            given_if_taken(
-                initial[s],
-                t[s],
-                revised_rates(side, price, price[s], market[s]),
-            )
+            given_back(t[s], revised_rates(side, price, price[s], market[s]))
         }
     })
 }

@@ -13,21 +13,21 @@ use step_changes::rises_falls::{falls, only_paid, products, rises};
 pub fn all_zero(v: [u64; 5]) -> bool
     ensures { result ≡ all_zero v }
 {
-    v.into_iter().fold(0, u64::max) == 0
+    v[0].max(v[1]).max(v[2]).max(v[3]).max(v[4]) == 0
 }
 
 // The least of five.
 pub fn least(q: [u32; 5]) -> u32
     ensures { result ≡ least_from q 0 4 }
 {
-    q.into_iter().fold(u32::MAX, u32::min)
+    q[0].min(q[1].min(q[2].min(q[3].min(q[4]))))
 }
 
 // The greatest of five.
 pub fn most(q: [u32; 5]) -> u32
     ensures { result ≡ most_to 5 (at q) }
 {
-    q.into_iter().fold(0, u32::max)
+    q[0].max(q[1]).max(q[2]).max(q[3]).max(q[4])
 }
 
 // From C and R.

@@ -1,5 +1,5 @@
 -- A step whose initial payments take nothing back: revised, modified and final payments are the initial ones.
-use Prim.Native.Nat.{ℕ, ◌<◌, ◌^◌, max, min}
+use Prim.Native.Nat.{ℕ, ◌<◌, max}
 use native.Mathlib.Omega.{arith}
 use mathlib.Core.Path.{◌≡◌, refl, sym, ◌∙◌, ap}
 use mathlib.Core.Bool.{Bool, true, cond, not}
@@ -8,10 +8,6 @@ use lib.Dec.{eqb}
 use lib.IntN.{ℤ, pos, negsuc}
 use lib.Signed.{non_neg}
 use borrow.Author.Tests.{eqb-true, eq-eqb}
-use Rattle.std.specs.Prelude.{length}
-use Rattle.std.specs.List.{fold}
-use Rattle.std.proofs.lemmas.List.FromFn.{fill_by_all}
-use Rattle.rules.specs.Quantities.{least_from}
 use Rattle.rules.specs.Fold.{five, at, eqb_z, most_to}
 use Rattle.rules.specs.Matching.{rise, fall}
 use Rattle.rules.specs.Payments.{on_step, bit, initial, initial_or, revised, modified}
@@ -26,28 +22,19 @@ use Rattle.step_pool.specs.declared.pool_amounts.Changes.{Changes}
 use Rattle.step_pool.specs.Amounts.{changes_on, step_pool, differs_on, pool_at, final_on, all_zero, Kept}
 use Rattle.step_pool.proofs.pool_amounts.Settling.{cond_same, taken_none, final_pays, of_plus, of_rises, of_falls, wide_row}
 
--- the greatest and the least of five by a fold
-pub most_fold : (v : List ℕ) → length v ≡ 5 → fold max 0 v ≡ most_to 5 (at v)
+-- the greatest of five by four comparisons
+next : (k : ℕ) {m n : ℕ} → m ≡ n → max m k ≡ max n k
+next k e = ap (λ (m : ℕ). max m k) e
+
+pub most_is : (v : List ℕ) (a b c d : ℕ) → a ≡ max (at v 0) (at v 1) → b ≡ max a (at v 2) → c ≡ max b (at v 3) → d ≡ max c (at v 4) → d ≡ most_to 5 (at v)
 unfolding most_to
-most_fold v h = ap (fold max 0) (fill_by_all (at v) v 5 0 h (λ k l. refl))
+most_is v a b c d ae be ce de =
+    let z : at v 0 ≡ max 0 (at v 0) = omega arith in
+    de ∙ next (at v 4) (ce ∙ next (at v 3) (be ∙ next (at v 2) (ae ∙ next (at v 1) z)))
 
-lesser : (a b c : ℕ) → min (min a b) c ≡ min a (min b c)
-lesser a b c = omega arith
-
-pub least_fold : (v : List ℕ) → length v ≡ 5 → at v 0 < 2 ^ 32 → fold min 4294967295 v ≡ least_from v 0 4
-unfolding least_from
-least_fold v h k =
-    let a = at v 0 in
-    let b = at v 1 in
-    let c = at v 2 in
-    let d = at v 3 in
-    let e = at v 4 in
-    let z : min 4294967295 a ≡ a = omega arith in
-    ap (fold min 4294967295) (fill_by_all (at v) v 5 0 h (λ k l. refl))
-    ∙ ap (λ (n : ℕ). min (min (min (min n b) c) d) e) z
-    ∙ lesser (min (min a b) c) d e
-    ∙ lesser (min a b) c (min d e)
-    ∙ lesser a b (min c (min d e))
+pub none_is : (v : List ℕ) (a b c d : ℕ) → a ≡ max (at v 0) (at v 1) → b ≡ max a (at v 2) → c ≡ max b (at v 3) → d ≡ max c (at v 4) → eqb d 0 ≡ all_zero v
+unfolding all_zero
+none_is v a b c d ae be ce de = ap (λ (n : ℕ). eqb n 0) (most_is v a b c d ae be ce de)
 
 pub kept_row : (x : Step) (v : List ℕ) → v ≡ five (minus_of (initial x)) → true ≡ all_zero v → Kept x
 unfolding all_zero minus_of

@@ -1,12 +1,8 @@
--- `step_pool::skipped_steps::all_zero` meets its contract.
-use Rattle.std.proofs.Common.{rules, ◌≡◌, ◌∙◌, ap, ℕ, eqb, max}
-use Rattle.std.specs.List.{fold}
-use Rattle.step_pool.specs.Amounts.{all_zero}
-use Rattle.step_pool.proofs.pool_amounts.Kept.{most_fold}
+-- `step_pool::skipped_steps::all_zero` meets its contract: the greatest of the five is 0.
+use Rattle.step_pool.proofs.pool_amounts.Kept.{none_is}
 use Rattle.step_pool.proofs.skipped_steps.all_zero.Goals as goal
 
 pub returns : goal.returns
-unfolding all_zero
 returns c =
-    let e : c.fold.result ≡ fold max 0 c.args.v = search rules in
-    ap (λ (n : ℕ). eqb n 0) (e ∙ most_fold c.args.v (search rules))
+    none_is c.args.v _ _ _ _ c.max.ensures c.max-2.ensures
+    c.max-3.ensures c.max-4.ensures
