@@ -23,6 +23,9 @@ use Rattle.cutter_prices.specs.declared.StepPrice.{StepPrice}
 use Rattle.cutter_prices.specs.declared.Slots.{Slots}
 
 -- where the prices of a schedule stand, from what was read
+pub slot_first : {w : List ℕ} → Line w → {r : ℕ} → r ≡ before_price 0 0 → r ≡ slot_of w 0
+slot_first {w} h q = let c = (h.accepted.bids 0 (omega arith)).count_first refl in q ∙ sym (slot_own w 0 (λ e. omega arith))
+
 pub slot_some : (w : List ℕ) (s : ℕ) {n r : ℕ} → n ≡ bid_count w s → (n ≡ 0 → ⊥) → r ≡ before_price s 0 → r ≡ slot_of w s
 slot_some w s e z q = q ∙ sym (slot_own w s (λ x. z (e ∙ x)))
 

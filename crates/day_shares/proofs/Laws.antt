@@ -1,14 +1,10 @@
 -- The code's sums over a group, one schedule after another; sizes and signs of totals.
 use Prim.Native.Nat.{ℕ, suc, ◌+◌, ◌-◌, ◌<◌, ◌≤◌, ◌^◌}
 use native.Mathlib.Omega.{arith}
-use mathlib.Core.Path.{◌≡◌, refl}
+use mathlib.Core.Path.{◌≡◌}
 use mathlib.Core.List.{List}
-use mathlib.Core.Bool.{Bool, true, false, not, ◌&&◌}
 use lib.IntN.{ℤ}
-use Rattle.std.specs.declared.cmp.Ordering.{Ordering}
-use Rattle.std.specs.declared.cmp.Ordering.TheVariants.{Less, Equal, Greater}
-use Rattle.std.specs.Ordering.{ordering_index}
-use Rattle.std.specs.Bool.{◌==◌}
+use borrow.Author.Tests.{eq-eqb, ne_eqb}
 use Rattle.rules.specs.Fold.{five, at, at_z}
 use Rattle.rules.specs.Totals.{adjusted}
 use Rattle.rules.specs.Uplift.{share_of}
@@ -16,58 +12,48 @@ use Rattle.laws.specs.Ints.{mi}
 use Rattle.day_totals.specs.Rows.{Row}
 use Rattle.day_totals.specs.Sizes.{Bounded}
 use Rattle.numbers.specs.Fives.{five_same}
-use Rattle.day_shares.specs.Groups.{before, whole, Small, link_of, linked, link_at, signs_of, links_of, before_most, before_next, whole_next}
+use Rattle.day_shares.specs.Groups.{before, whole, Small, link_at, signs_of, links_of, before_most, before_next, whole_next}
 use Rattle.day_shares.specs.Parts.{size_at, Divisibles, quotient_at, rest_at, unit_at, share_at, weights, parts, amounts, wholes, sizes_of, rests_of, units_of, sizes_small, rests_small, units_small, quotients_small, divisibles, share_is}
 
--- neighbours are of one group where their signs are equal and not that of 0
-pub link_is : (a b : Ordering) → link_of a b ≡ (not (ordering_index a == 1) && (ordering_index a == ordering_index b))
-link_is Less Less = refl
-link_is Less Equal = refl
-link_is Less Greater = refl
-link_is Equal b = refl
-link_is Greater Less = refl
-link_is Greater Equal = refl
-link_is Greater Greater = refl
-
 -- the code's sums over a group
-pub sum_fits : (l : List Bool) (x : List ℕ) (s v : ℕ) → Small x → s < 5 → v ≡ before l x s → v + at x s < 2 ^ 64
+pub sum_fits : (l x : List ℕ) (s v : ℕ) → Small x → s < 5 → v ≡ before l x s → v + at x s < 2 ^ 64
 sum_fits l x s v h g e =
     let b = before_most l x h s g in
     let o = h.most s g in
     omega arith
 
-module _ (l : List Bool) (x : List ℕ) {g : ℕ → ℕ} (y : List ℕ) (s : ℕ) (r : Row 0 (before l x) g y s) (h : 0 < s) (k : s < 5) where
+module _ (l x : List ℕ) {g : ℕ → ℕ} (y : List ℕ) (s : ℕ) (r : Row 0 (before l x) g y s) (h : 0 < s) (k : s < 5) where
   -- the group of s goes on after the schedule before it, or begins with s
-  pub before_goes : linked l s ≡ true → at y (s - 1) + at x (s - 1) ≡ before l x s
+  pub before_goes : (at l s ≡ 0 → ⊥) → at y (s - 1) + at x (s - 1) ≡ before l x s
   before_goes e =
       let p : suc (s - 1) ≡ s = omega arith in
       let q = rw p at (before_next l x (s - 1)) in
-      rw (r.below (s - 1) (omega arith), q, e)
+      rw (r.below (s - 1) (omega arith), q, ne_eqb (at l s) 0 e)
 
-  pub before_begins : linked l s ≡ false → 0 ≡ before l x s
+  pub before_begins : at l s ≡ 0 → 0 ≡ before l x s
   before_begins e =
       let p : suc (s - 1) ≡ s = omega arith in
       let q = rw p at (before_next l x (s - 1)) in
-      rw (q, e)
+      rw (q, eq-eqb (at l s) 0 e)
 
-module _ (l : List Bool) (x y : List ℕ) (s : ℕ) (r : Row 0 (before l x) (whole l x) y s) (h : 0 < s) (k : s ≤ 4) where
+module _ (l x y : List ℕ) (s : ℕ) (r : Row 0 (before l x) (whole l x) y s) (h : 0 < s) (k : s ≤ 4) where
   -- the group of s - 1 goes on, or ends with it
-  pub whole_goes : linked l (s - 1 + 1) ≡ true → at y (s - 1 + 1) ≡ whole l x (s - 1)
+  pub whole_goes : (at l (s - 1 + 1) ≡ 0 → ⊥) → at y (s - 1 + 1) ≡ whole l x (s - 1)
   whole_goes e =
       let p : s - 1 + 1 ≡ s = omega arith in
       let n : suc (s - 1) ≡ s = omega arith in
       let q = rw n at (whole_next l x (s - 1) (omega arith)) in
-      rw (p, q, rw p at e) (r.above s (omega arith) (omega arith))
+      rw (p, q, ne_eqb (at l s) 0 (rw p at e)) (r.above s (omega arith) (omega arith))
 
-  pub whole_ends : linked l (s - 1 + 1) ≡ false → at y (s - 1) + at x (s - 1) ≡ whole l x (s - 1)
+  pub whole_ends : at l (s - 1 + 1) ≡ 0 → at y (s - 1) + at x (s - 1) ≡ whole l x (s - 1)
   whole_ends e =
       let p : s - 1 + 1 ≡ s = omega arith in
       let n : suc (s - 1) ≡ s = omega arith in
       let q = rw n at (whole_next l x (s - 1) (omega arith)) in
-      rw (q, rw p at e, r.below (s - 1) (omega arith))
+      rw (q, eq-eqb (at l s) 0 (rw p at e), r.below (s - 1) (omega arith))
 
 -- the code's rows are those of the totals, each from the ones before it
-module _ (t a : List ℤ) (g : List Ordering) (l : List Bool) (w p m c : List ℕ) where
+module _ (t a : List ℤ) (g l w p m c : List ℕ) where
   pub record Sums : Type 0 where
     pub link : l ≡ links_of t
     pub weight : w ≡ weights t
@@ -80,7 +66,7 @@ module _ (t a : List ℤ) (g : List Ordering) (l : List Bool) (w p m c : List �
       let p' : p ≡ parts t = rw (pe, ae) in
       record { link = l'; weight = we; amount = rw (me, l', p'); sum = rw (ce, l', we) }
 
-module _ {t a : List ℤ} {g : List Ordering} {l : List Bool} {w p m c : List ℕ} (k : Sums t a g l w p m c) where
+module _ {t a : List ℤ} {g l w p m c : List ℕ} (k : Sums t a g l w p m c) where
   -- what the code asks of them
   pub divisible : Bounded t → mi (at_z t 0) ≡ 0 → Divisibles w m c
   divisible b h = rw (k.weight, k.amount, k.sum) (divisibles t b h)

@@ -3,46 +3,38 @@ use Prim.Native.Nat.{ℕ, zero, suc, ◌+◌, ◌*◌, ◌-◌, ◌≤◌, ◌<�
 use native.Mathlib.Omega.{arith}
 use Rattle.std.proofs.Math.Nat.{add-zero}
 use Rattle.std.proofs.Common.{mul-zero, ◌∙◌, true≢false}
-use Rattle.std.specs.Prelude.{◌≡◌, List, get_or, Bool, ◌&&◌, ◌||◌, ℤ}
-use Rattle.std.specs.declared.cmp.Ordering.{Ordering}
-use Rattle.std.specs.declared.cmp.Ordering.TheVariants.{Less, Equal, Greater}
-use Rattle.std.specs.Ordering.{is_lt, is_gt}
+use Rattle.std.specs.Prelude.{◌≡◌, List, Bool, ◌&&◌, ◌||◌, eqb, ℤ}
 use Rattle.std.proofs.Math.Path.{refl, sym, ap}
 use Rattle.std.proofs.Math.Bool.{true, false, cond}
 use Rattle.rules.specs.Fold.{sum_to, all_to, five, at, at_z}
+use Rattle.rules.specs.Payments.{bit}
 use Rattle.rules.specs.Uplift.{above, below, all_from, same_group}
 use Rattle.laws.specs.Folds.{sum_none, sum_suc, sum_same, sum_most, at_five}
 use Rattle.uplift_laws.specs.Signs.{one_side, same_part, same_turn, same_group_lem}
 
--- how a number compares with 0
-abbrev pub sign_of : ℤ → Ordering
-sign_of z = cond (above z) Greater (cond (below z) Less Equal)
+-- 1 for a number above 0, 2 for one below 0, 0 for 0
+abbrev pub sign_word : ℤ → ℕ
+sign_word z = cond (above z) 1 (cond (below z) 2 0)
 
 -- of neighbours with these signs whether they are of one group
-abbrev pub link_of : Ordering → Ordering → Bool
-link_of Less b = is_lt b
-link_of Equal b = false
-link_of Greater b = is_gt b
+abbrev pub link_of : ℕ → ℕ → ℕ
+link_of a b = cond (eqb a 0) 0 (bit (eqb a b))
 
 -- of schedule s and the one before it
-abbrev pub link_at : List Ordering → ℕ → Bool
-link_at g zero = false
-link_at g (suc s) = link_of (get_or g s Equal) (get_or g (suc s) Equal)
-
--- whether schedule s is of one group with the one before it
-abbrev pub linked : List Bool → ℕ → Bool
-linked l s = get_or l s false
+abbrev pub link_at : List ℕ → ℕ → ℕ
+link_at g zero = 0
+link_at g (suc s) = link_of (at g s) (at g (suc s))
 
 -- the sum of x over the schedules of the group of s that are before s; over the whole group, where m schedules follow s
-unfoldable pub before : List Bool → List ℕ → ℕ → ℕ
+unfoldable pub before : List ℕ → List ℕ → ℕ → ℕ
 before l x zero = 0
-before l x (suc s) = cond (linked l (suc s)) (before l x s + at x s) 0
+before l x (suc s) = cond (eqb (at l (suc s)) 0) 0 (before l x s + at x s)
 
-unfoldable pub whole_of : List Bool → List ℕ → ℕ → ℕ → ℕ
+unfoldable pub whole_of : List ℕ → List ℕ → ℕ → ℕ → ℕ
 whole_of l x s zero = before l x s + at x s
-whole_of l x s (suc m) = cond (linked l (suc s)) (whole_of l x (suc s) m) (before l x s + at x s)
+whole_of l x s (suc m) = cond (eqb (at l (suc s)) 0) (before l x s + at x s) (whole_of l x (suc s) m)
 
-abbrev pub whole : List Bool → List ℕ → ℕ → ℕ
+abbrev pub whole : List ℕ → List ℕ → ℕ → ℕ
 whole l x s = whole_of l x s (4 - s)
 
 -- five of them, added up, fit 64 bits
@@ -63,40 +55,40 @@ sum_tail n (suc k) f h =
     let p : n + suc k ≡ suc (n + k) = omega arith in
     rw (p, sum_suc (n + k) f, r, e) (omega arith)
 
-cond_most : (b : Bool) (n k : ℕ) → n ≤ k → cond b n 0 ≤ k
-cond_most true n k e = e
-cond_most false n k e = omega arith
+cond_most : (b : Bool) (n k : ℕ) → n ≤ k → cond b 0 n ≤ k
+cond_most true n k e = omega arith
+cond_most false n k e = e
 
 -- what stands before a schedule, at most so much for each
-pub before_most : (l : List Bool) (x : List ℕ) → Small x → (s : ℕ) → s < 5 → before l x s ≤ s * 2 ^ 61
+pub before_most : (l x : List ℕ) → Small x → (s : ℕ) → s < 5 → before l x s ≤ s * 2 ^ 61
 unfolding before
 before_most l x h zero g = omega arith
 before_most l x h (suc s) g =
     let r = before_most l x h s (omega arith) in
     let m = h.most s (omega arith) in
-    cond_most (linked l (suc s)) (before l x s + at x s) (suc s * 2 ^ 61) (omega arith)
+    cond_most (eqb (at l (suc s)) 0) (before l x s + at x s) (suc s * 2 ^ 61) (omega arith)
 
 -- the code's sums, one schedule at a time
-pub before_first : (l : List Bool) (x : List ℕ) → before l x 0 ≡ 0
+pub before_first : (l x : List ℕ) → before l x 0 ≡ 0
 unfolding before
 before_first l x = refl
 
-pub before_next : (l : List Bool) (x : List ℕ) (s : ℕ) → before l x (suc s) ≡ cond (linked l (suc s)) (before l x s + at x s) 0
+pub before_next : (l x : List ℕ) (s : ℕ) → before l x (suc s) ≡ cond (eqb (at l (suc s)) 0) 0 (before l x s + at x s)
 unfolding before
 before_next l x s = refl
 
-pub whole_last : (l : List Bool) (x : List ℕ) → whole l x 4 ≡ before l x 4 + at x 4
+pub whole_last : (l x : List ℕ) → whole l x 4 ≡ before l x 4 + at x 4
 unfolding whole_of
 whole_last l x = refl
 
-pub whole_next : (l : List Bool) (x : List ℕ) (s : ℕ) → s < 4 → whole l x s ≡ cond (linked l (suc s)) (whole l x (suc s)) (before l x s + at x s)
+pub whole_next : (l x : List ℕ) (s : ℕ) → s < 4 → whole l x s ≡ cond (eqb (at l (suc s)) 0) (before l x s + at x s) (whole l x (suc s))
 unfolding whole_of
 whole_next l x s g =
     let e : 4 - s ≡ suc (4 - suc s) = omega arith in
     rw e
 
 -- neighbours
-link_bits : (a b c d : Bool) → (a ≡ true → b ≡ true → ⊥) → (c ≡ true → d ≡ true → ⊥) → link_of (cond a Greater (cond b Less Equal)) (cond c Greater (cond d Less Equal)) ≡ ((a && c) || (b && d))
+link_bits : (a b c d : Bool) → (a ≡ true → b ≡ true → ⊥) → (c ≡ true → d ≡ true → ⊥) → link_of (cond a 1 (cond b 2 0)) (cond c 1 (cond d 2 0)) ≡ bit ((a && c) || (b && d))
 link_bits true true true true h k = absurd (h refl refl)
 link_bits true true true false h k = absurd (h refl refl)
 link_bits true true false true h k = absurd (h refl refl)
@@ -119,10 +111,10 @@ not_so true h = absurd (h refl)
 not_so false h = refl
 
 module _ (t : List ℤ) where
-  abbrev pub signs_of : List Ordering
-  signs_of = five (λ s. sign_of (at_z t s))
+  abbrev pub signs_of : List ℕ
+  signs_of = five (λ s. sign_word (at_z t s))
 
-  abbrev pub links_of : List Bool
+  abbrev pub links_of : List ℕ
   links_of = five (link_at signs_of)
 
   two_all : (p : ℤ → Bool) (s : ℕ) → all_from p t s (suc s) ≡ (p (at_z t s) && p (at_z t (suc s)))
@@ -133,12 +125,12 @@ module _ (t : List ℤ) where
       let c : s + 1 ≡ suc s = omega arith in
       rw (a, b, add-zero s, c)
 
-  pub link_is : (s : ℕ) → suc s < 5 → linked links_of (suc s) ≡ same_group t s (suc s)
+  pub link_is : (s : ℕ) → suc s < 5 → at links_of (suc s) ≡ bit (same_group t s (suc s))
   unfolding same_group
   link_is s l =
-      let u = at_five (λ i. sign_of (at_z t i)) Equal s (omega arith) in
-      let v = at_five (λ i. sign_of (at_z t i)) Equal (suc s) l in
-      let w = at_five (link_at signs_of) false (suc s) l in
+      let u = at_five (λ i. sign_word (at_z t i)) 0 s (omega arith) in
+      let v = at_five (λ i. sign_word (at_z t i)) 0 (suc s) l in
+      let w = at_five (link_at signs_of) 0 (suc s) l in
       rw (w, u, v, two_all above s, two_all below s)
       (link_bits (above (at_z t s)) (below (at_z t s)) (above (at_z t (suc s))) (below (at_z t (suc s))) (one_side (at_z t s)) (one_side (at_z t (suc s))))
 

@@ -41,7 +41,7 @@ rest_at w a c s = bit (ltb 0 (at w s * at a s % at c s))
 abbrev pub division_at : List ℕ → List ℕ → List ℕ → ℕ → Division
 division_at w a c s = record { quotient = quotient_at w a c s; remainder = at w s * at a s % at c s }
 
-abbrev pub unit_at : List Bool → List ℕ → List ℕ → List ℕ → ℕ → ℕ
+abbrev pub unit_at : List ℕ → List ℕ → List ℕ → List ℕ → ℕ → ℕ
 unit_at l a q r s = cond (eqb (at r s) 0) 0 (bit (ltb (before l r s) (at a s - whole l q s)))
 
 abbrev pub share_at : List ℤ → List ℕ → List ℕ → ℕ → ℤ
@@ -198,7 +198,7 @@ pub rests_small : (w a c : List ℕ) → Small (five (rest_at w a c))
 rests_small w a c =
     record { most = λ s l. rw (at_five (rest_at w a c) 0 s l) (bit_most (ltb 0 (at w s * at a s % at c s))) }
 
-pub units_small : (l : List Bool) (a q r : List ℕ) → Small (five (unit_at l a q r))
+pub units_small : (l a q r : List ℕ) → Small (five (unit_at l a q r))
 units_small l a q r =
     record { most = λ s g. rw (at_five (unit_at l a q r) 0 s g) (unit_most (eqb (at r s) 0) (ltb (before l r s) (at a s - whole l q s))) }
 

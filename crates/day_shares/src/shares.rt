@@ -75,7 +75,7 @@ fn unit(rest: u64, earlier: u64, amount: u64, given: u64) -> u64
 }
 
 // The units of all schedules.
-fn units(l: [bool; 5], a: [u64; 5], q: [u64; 5], rests: [u64; 5]) -> [u64; 5]
+fn units(l: [u32; 5], a: [u64; 5], q: [u64; 5], rests: [u64; 5]) -> [u64; 5]
     requires { (Small q) × (Small rests) }
     ensures { result ≡ five (unit_at l a q rests) }
 {

@@ -12,7 +12,7 @@ use streams::read_full;
 
 // Reads the next entry into the lent bytes. Answers `None` at the pack's end, at an entry that is broken off, and at one longer than the
 // lent bytes.
-fn read<'a, R: Read>(input: &mut R, space: &'a mut [u8]) -> io::Result<Option<&'a [u8]>>
+pub fn read<'a, R: Read>(input: &mut R, space: &'a mut [u8]) -> io::Result<Option<&'a [u8]>>
     ensures { IfOk result (λ r. Reads (length space.old) (R.remaining input.old) (R.remaining input.new) (option_map (λ e. e.now) r)) }
 {
     let mut head = [0u8; 4];

@@ -8,14 +8,12 @@ ghost use Rattle.cutter_prices.specs.Step.{slots_of};
 ghost use Rattle.step_inputs.specs.Inputs.{market_of, StepReady};
 ghost use Rattle.step_inputs.specs.Ready.{LineReady, PastHedge};
 
-use crate::inputs::{LineTotals, Market, step_with, totals_of};
+use crate::inputs::{LineTotals, Market, step_at, step_here, totals_of};
 use cutter::positions::Position;
-use cutter::read_step::{flag_row, price_row};
-use cutter_prices::{Slots, step_rows};
+use cutter_prices::Slots;
 use layout::header::{Line, line_of};
 use line_quantities::in_force::day_table;
 use rules::{Cut, Step};
-use step_terms::paid_row;
 
 #[derive(Clone, Copy)]
 pub struct DayLine<'a> {
@@ -48,16 +46,16 @@ impl<'a> DayLine<'a> {
         requires { StepReady self.now.day.now self.now.k self.now.market self.now.totals cut.now.ends cut.now.prices cut.now.flags lower j }
         ensures { result ≡ step_of self.now.day.now self.now.k j }
     {
-        let upper = cut.ends[j];
-        let t = self.totals;
-        step_with(
+        step_at(
+            self.day,
+            self.k,
             self.market,
-            t,
+            self.totals,
+            &cut.ends,
+            &cut.prices,
+            cut.flags,
             lower,
-            upper,
-            price_row(&cut.prices, j),
-            flag_row(cut.flags, j),
-            paid_row(t.accredited, t.hedge, upper),
+            j,
         )
     }
 
@@ -68,17 +66,17 @@ impl<'a> DayLine<'a> {
         ensures { result ≡ step_of self.now.day.now self.now.k at.step }
     {
         let upper = at.lower + 1 + at.gap;
-        let line = self.bytes;
-        let rows = step_rows(line, slots, at.places, upper);
-        let t = self.totals;
-        step_with(
+        step_here(
+            self.day,
+            self.k,
+            self.bytes,
             self.market,
-            t,
+            self.totals,
+            slots,
+            at.places,
             at.lower,
             upper,
-            rows.price,
-            rows.flag,
-            t.accredited,
+            at.step,
         )
     }
 }

@@ -1,10 +1,14 @@
-// What the steps of a day and of a line share: the market table and a line's totals.
+// What one step is worked out from: the market table, a line's totals and the cut step, put together as a `Step`.
 ghost use Rattle.std.specs.Prelude.{◌≡◌, ℕ, ◌≤◌, ◌<◌, ◌^◌, length};
 ghost use Rattle.rules.specs.Fold.{five, at};
 ghost use Rattle.rules.specs.Refusals.{line_fault_with};
-ghost use Rattle.step_inputs.specs.Inputs.{market_of, totals_of, step_with};
+ghost use Rattle.rules.specs.Days.{step_of};
+ghost use Rattle.step_inputs.specs.Inputs.{market_of, totals_of, step_with, StepReady, StepHere};
 ghost use Rattle.step_terms.specs.Terms.{paid_row};
 
+use cutter::read_step::{flag_row, price_row};
+use cutter_cursors::cursors::Sweep;
+use cutter_prices::{Slots, step_rows};
 use layout::fields::{accreditation, hedge, side};
 use layout::header::Line;
 use layout::market::{cap_marks, clawback, market_prices, price_cap};
@@ -13,7 +17,7 @@ use line_quantities::rows::{actuals, pricing_totals};
 use line_totals::{effective_actual, operating_totals};
 use rules::Step;
 use std::array::from_fn;
-use step_terms::{accredited_row, capped_row};
+use step_terms::{accredited_row, capped_row, paid_row};
 
 // The market table.
 #[derive(Clone, Copy)]
@@ -81,7 +85,7 @@ pub fn totals_of(line: &Line, table: [[u32; 5]; 5]) -> LineTotals
 }
 
 // A step from its ends, uncapped prices and flags, and where it is paid.
-pub(crate) fn step_with(
+fn step_with(
     m: Market,
     t: LineTotals,
     lower: u32,
@@ -109,4 +113,50 @@ pub(crate) fn step_with(
         actual: t.actual,
         most: t.most,
     }
+}
+
+// Step j of line k, from the market table, the line's totals and what the cutter answers for it; `lower` is the end before. The day's
+// bytes are not read: the contract speaks of them.
+#[inline(always)]
+pub fn step_at(
+    day: &[u8],
+    k: usize,
+    m: Market,
+    t: LineTotals,
+    ends: &[u32; 56],
+    prices: &[u32; 280],
+    flags: [u64; 5],
+    lower: u32,
+    j: usize,
+) -> Step
+    requires { StepReady day.now k m t ends.now prices.now flags lower j }
+    ensures { result ≡ step_of day.now k j }
+{
+    let upper = ends[j];
+    let price = price_row(prices, j);
+    let flag = flag_row(flags, j);
+    let paid = paid_row(t.accredited, t.hedge, upper);
+    step_with(m, t, lower, upper, price, flag, paid)
+}
+
+// Step j of line k, past the hedge, where the sweep over the line stands; `line` is the line's bytes, and those of the day are not read. It
+// is paid in each schedule in which its line is accredited.
+#[inline(always)]
+pub fn step_here(
+    day: &[u8],
+    k: usize,
+    line: &Line,
+    m: Market,
+    t: LineTotals,
+    slots: Slots,
+    places: Sweep,
+    lower: u32,
+    upper: u32,
+    j: usize,
+) -> Step
+    requires { StepHere day.now k line.now m t slots places lower upper j }
+    ensures { result ≡ step_of day.now k j }
+{
+    let rows = step_rows(line, slots, places, upper);
+    step_with(m, t, lower, upper, rows.price, rows.flag, t.accredited)
 }

@@ -11,12 +11,10 @@ ghost use Rattle.text_steps.specs.Text.{place_text, line_head, line_steps, part_
 
 use day::check_day;
 use layout::fields::{participant, point, side};
-use layout::header::{Line, line_count};
+use layout::header::{Line, line_count, line_of};
 use rules::View;
 use std::io;
 use std::io::Write;
-use step_inputs::day_line::DayLine;
-use step_inputs::inputs::market_of;
 use text::digits::{put_byte, put_bytes, put_decimal};
 use text::refused::put_refused;
 use text_lines::{put_ids, put_side_steps};
@@ -57,11 +55,10 @@ fn put_line(out: &mut [u8], at: usize, day: &[u8], k: usize) -> usize
     requires { (day_fault day.now ≡ 0) × (k < line_count day.now) × (at + 89228 ≤ length out.old) }
     ensures { Written 89228 out.old at (line_steps day.now k) result out.new }
 {
-    let line = DayLine::new(day, k, market_of(day));
-    let bytes = line.bytes;
+    let line = line_of(day, k);
     let mut views = [refused(0); 56];
-    let count = put_views(&line, &mut views);
-    let a = put_line_head(out, at, k, bytes, count as u32);
+    let count = put_views(day, k, &mut views);
+    let a = put_line_head(out, at, k, line, count as u32);
     let b = put_steps(out, a, &views[..count]);
     put_excess(out, b, views[0].excess)
 }

@@ -1,6 +1,7 @@
 // The views of all steps of a line by one call: the day is checked, the line cut and the pool of its side worked out once.
-ghost use Rattle.std.specs.Prelude.{◌≡◌, length, IfOk};
+ghost use Rattle.std.specs.Prelude.{◌≡◌, ◌<◌, length, IfOk};
 ghost use Rattle.std.proofs.lemmas.List.Edits.{sets};
+ghost use Rattle.rules.specs.Layout.{line_count};
 ghost use Rattle.rules.specs.Refusals.{day_fault, view_fault};
 ghost use Rattle.refusals.specs.Numbers.{fault_of};
 ghost use Rattle.view.specs.LineViews.{line_views};
@@ -17,7 +18,7 @@ use step_inputs::inputs::market_of;
 
 // Puts the views of a line's steps into the first of the lent places, and answers how many. The loop maintains that those of the first j
 // steps are put, and `lower` is the last of their ends.
-pub fn put_views(line: &DayLine<'_>, views: &mut [View; 56]) -> usize
+fn put_line_views(line: &DayLine<'_>, views: &mut [View; 56]) -> usize
     requires { day_fault line.now.day.now ≡ 0 }
     ensures value { result ≡ length (line_views line.now.day.now line.now.k) }
     ensures views_after { views.new ≡ sets views.old 0 (line_views line.now.day.now line.now.k) }
@@ -35,6 +36,15 @@ pub fn put_views(line: &DayLine<'_>, views: &mut [View; 56]) -> usize
     count
 }
 
+// Puts the views of line k of an accepted day into the first of the lent places, and answers how many.
+pub fn put_views(day: &[u8], k: usize, views: &mut [View; 56]) -> usize
+    requires { (day_fault day.now ≡ 0) × (k < line_count day.now) }
+    ensures value { result ≡ length (line_views day.now k) }
+    ensures views_after { views.new ≡ sets views.old 0 (line_views day.now k) }
+{
+    put_line_views(&DayLine::new(day, k, market_of(day)), views)
+}
+
 // Puts the views of a line's steps into the first of the lent places and answers how many, for any bytes and any number. Refused, the lent
 // places are as they were.
 pub fn line_views(day: &[u8], k: usize, views: &mut [View; 56]) -> Result<usize, Refusal>
@@ -46,5 +56,5 @@ pub fn line_views(day: &[u8], k: usize, views: &mut [View; 56]) -> Result<usize,
     if line_count(day) <= k {
         return Err(Refusal::NoLine);
     }
-    Ok(put_views(&DayLine::new(day, k, market_of(day)), views))
+    Ok(put_views(day, k, views))
 }

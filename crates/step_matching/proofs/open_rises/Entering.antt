@@ -1,5 +1,5 @@
 -- What a ledger of four places takes and leaves, and that it holds the open rises of `rules` from schedule to schedule.
-use Prim.Native.Nat.{ℕ, suc, ◌-◌, ◌<◌, min}
+use Prim.Native.Nat.{ℕ, suc, ◌-◌, ◌≤◌, ◌<◌, min}
 use native.Mathlib.Omega.{arith}
 use mathlib.Core.Path.{◌≡◌, refl, sym, ◌∙◌, ap}
 use mathlib.Core.List.{List, [], ◌∷◌}
@@ -15,6 +15,10 @@ use Rattle.step_matching.specs.declared.open_rises.Matched.{Matched}
 use Rattle.step_matching.specs.Ledgers.{entered, Holding, match_row}
 use Rattle.step_matching.specs.Takings.{takes_take, leaves_take}
 use Rattle.step_matching.specs.Balance.{matched_in, matched_out}
+
+-- a match is at most the open rise
+pub match_most : {m : ℕ} (d u : ℕ) → m ≡ min d u → m ≤ u
+match_most d u e = omega arith
 
 -- the four matches of a fall d with the open rises l
 pub record Four (d : ℕ) (l : List ℕ) (m₀ m₁ m₂ m₃ : ℕ) : Type 0 where

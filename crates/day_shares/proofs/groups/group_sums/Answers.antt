@@ -6,7 +6,7 @@ use Rattle.day_totals.specs.Rows.{row_back_begins, row_back, row_back_done}
 use Rattle.day_shares.specs.Groups.{before, whole, whole_last}
 use Rattle.day_shares.proofs.Laws.{sum_fits, whole_goes, whole_ends}
 use Rattle.day_shares.proofs.groups.group_sums.Goals as goal
-use Rattle.day_shares.proofs.groups.group_sums.Goals.{then-l-s, else-l-s}
+use Rattle.day_shares.proofs.groups.group_sums.Goals.{then-l-s-eq0, else-l-s-eq0}
 
 pub overflow_add-sums : goal.overflow_add-sums
 overflow_add-sums c =
@@ -20,8 +20,8 @@ loop-s-init c =
     rw c.sums_before-sums.ensures
     (row_back 0 (before l x) (whole l x) _ 5 _ (row_back_begins 0 (before l x) (whole l x)) (omega arith) (omega arith) (sym (whole_last l x)))
 
-pub overflow_add-sums-else-l-s : goal.overflow_add-sums-else-l-s
-overflow_add-sums-else-l-s c =
+pub overflow_add-sums-then-l-s-eq0 : goal.overflow_add-sums-then-l-s-eq0
+overflow_add-sums-then-l-s-eq0 c =
     let s = c.loop-s.s in
     omega (arith, sum_fits c.args.l c.args.x (s - 1) _ c.requires (omega arith) (c.loop-s.invariant.below (s - 1) (omega arith)))
 
@@ -31,10 +31,10 @@ loop-s-preserved c =
     let x = c.args.x in
     let s = c.loop-s.s in
     let r = c.loop-s.invariant in
-    let e : c.if-l-s.sums ≡ whole l x (s - 1) =
-    elim c.if-l-s.branch [
-      | then-l-s w ↦ w.sums-is ∙ whole_goes l x _ s r (omega arith) (omega arith) w.if-l-s.true
-      | else-l-s w ↦ w.sums-is ∙ whole_ends l x _ s r (omega arith) (omega arith) w.if-l-s.false
+    let e : c.if-l-s-eq0.sums ≡ whole l x (s - 1) =
+    elim c.if-l-s-eq0.branch [
+      | then-l-s-eq0 w ↦ w.sums-is ∙ whole_ends l x _ s r (omega arith) (omega arith) w.if-l-s-eq0.true
+      | else-l-s-eq0 w ↦ w.sums-is ∙ whole_goes l x _ s r (omega arith) (omega arith) w.if-l-s-eq0.false
     ]
     in
     row_back 0 _ (whole l x) _ s _ r (omega arith) (omega arith) e

@@ -6,7 +6,7 @@ use Rattle.day_totals.specs.Rows.{row_begins, row_on, row_kept, row_done}
 use Rattle.day_shares.specs.Groups.{before, before_first}
 use Rattle.day_shares.proofs.Laws.{sum_fits, before_goes, before_begins}
 use Rattle.day_shares.proofs.groups.sums_before.Goals as goal
-use Rattle.day_shares.proofs.groups.sums_before.Goals.{then-l-s, else-l-s}
+use Rattle.day_shares.proofs.groups.sums_before.Goals.{then-l-s-eq0, else-l-s-eq0}
 
 pub loop-s-init : goal.loop-s-init
 loop-s-init c =
@@ -24,10 +24,10 @@ loop-s-preserved c =
     let x = c.args.x in
     let s = c.loop-s.s in
     let r = c.loop-s.invariant in
-    let e : c.if-l-s.sums ≡ before l x s =
-    elim c.if-l-s.branch [
-      | then-l-s w ↦ w.sums-is ∙ before_goes l x _ s r (omega arith) (omega arith) w.if-l-s.true
-      | else-l-s w ↦ w.sums-is ∙ before_begins l x _ s r (omega arith) (omega arith) w.if-l-s.false
+    let e : c.if-l-s-eq0.sums ≡ before l x s =
+    elim c.if-l-s-eq0.branch [
+      | then-l-s-eq0 w ↦ w.sums-is ∙ before_begins l x _ s r (omega arith) (omega arith) w.if-l-s-eq0.true
+      | else-l-s-eq0 w ↦ w.sums-is ∙ before_goes l x _ s r (omega arith) (omega arith) w.if-l-s-eq0.false
     ]
     in
     row_on 0 (before l x) _ _ s _ r (omega arith) e

@@ -34,15 +34,8 @@ returns-then-line_count-k-clause-views_after c =
     let none = views_refused c.args.day.now c.args.k (λ e. omega (arith, fault, e)) in
     ap (λ (s : List View). sets c.args.views.now 0 s) (sym none)
 
-pub market_of-requires : goal.market_of-requires
-market_of-requires c = omega (arith, (accepted_day c.args.day.now (sym c.in_ok-check_day.ensures)).header.length_least)
-
-pub new-requires : goal.new-requires
-new-requires c = (
-  accepted_day c.args.day.now (sym c.in_ok-check_day.ensures),
-  omega (arith, c.line_count.ensures, c.if-line_count-k.false),
-  c.market_of.ensures,
-)
+pub put_views-requires : goal.put_views-requires
+put_views-requires c = (sym c.in_ok-check_day.ensures, omega (arith, c.line_count.ensures, c.if-line_count-k.false))
 
 pub returns-clause-number : goal.returns-clause-number
 returns-clause-number c =
